@@ -1,0 +1,61 @@
+-- Laws of counting and testing along a list that is read from the front, place by place.
+-- Assumes nothing.
+use Prim.Native.Nat.{ℕ, zero, suc, _+_, _≤_, _<_}
+use mathlib.Core.Path.{_≡_, refl, ap, sym, _∙_}
+use mathlib.Core.Bool.{Bool, true, false, _&&_}
+use mathlib.Core.List.{List, [], _∷_}
+use native.Mathlib.Numerals.{add-one}
+use native.Mathlib.Omega.{arith}
+use lib.ListN.{length, getD, drop, drop-of-length-le}
+use lib.Seq.{drop-cons}
+use Rattle.counting.specs.Choose.{one}
+use Rattle.counting.specs.Count.{count, everyOf, total}
+use Rattle.counting.proofs.Tests.{and-true}
+
+-- ---- count: a loop at place i that has found n
+
+pub count-step : (f : ℕ → Bool) (xs : List ℕ) (i : ℕ) → i < length xs → count f (drop i xs) ≡ one (f (getD xs i 0)) + count f (drop (i + 1) xs)
+unfolding count
+count-step f xs i h = rw (add-one, drop-cons xs i 0)
+
+pub count-end : (f : ℕ → Bool) (xs : List ℕ) (i : ℕ) → length xs ≤ i → count f (drop i xs) ≡ 0
+unfolding count
+count-end f xs i h = rw drop-of-length-le
+
+abbrev pub Counted : (ℕ → Bool) → List ℕ → ℕ → ℕ → Type 0
+Counted f xs n i = (i ≤ length xs) × (n ≤ i) × (n + count f (drop i xs) ≡ count f xs)
+
+pub count-hit : (f : ℕ → Bool) (xs : List ℕ) (n i : ℕ) → Counted f xs n i → i < length xs → f (getD xs i 0) ≡ true → Counted f xs (n + 1) (i + 1)
+count-hit f xs n i v h t = omega (arith, count-step f xs i h, ap one t)
+
+pub count-miss : (f : ℕ → Bool) (xs : List ℕ) (n i : ℕ) → Counted f xs n i → i < length xs → f (getD xs i 0) ≡ false → Counted f xs n (i + 1)
+count-miss f xs n i v h t = omega (arith, count-step f xs i h, ap one t)
+
+pub count-done : (f : ℕ → Bool) (xs : List ℕ) (n i : ℕ) → Counted f xs n i → length xs ≤ i → n ≡ count f xs
+count-done f xs n i v h = omega (arith, count-end f xs i h)
+
+-- ---- every
+
+pub everyOf-step : (f : ℕ → Bool) (xs : List ℕ) (i : ℕ) → i < length xs → everyOf f (drop i xs) ≡ (f (getD xs i 0) && everyOf f (drop (i + 1) xs))
+unfolding everyOf
+everyOf-step f xs i h = rw (add-one, drop-cons xs i 0)
+
+pub everyOf-end : (f : ℕ → Bool) (xs : List ℕ) (i : ℕ) → length xs ≤ i → everyOf f (drop i xs) ≡ true
+unfolding everyOf
+everyOf-end f xs i h = rw drop-of-length-le
+
+pub everyOf-at : (f : ℕ → Bool) (xs : List ℕ) → everyOf f xs ≡ true → (k : ℕ) → k < length xs → f (getD xs k 0) ≡ true
+unfolding everyOf
+everyOf-at f [] e k h = absurd (omega arith)
+everyOf-at f (x ∷ xs) e zero h = and-true (f x) (everyOf f xs) e .0
+everyOf-at f (x ∷ xs) e (suc k) h = everyOf-at f xs (and-true (f x) (everyOf f xs) e .1) k (omega arith)
+
+-- ---- total
+
+pub total-step : (xs : List ℕ) (i : ℕ) → i < length xs → total (drop i xs) ≡ getD xs i 0 + total (drop (i + 1) xs)
+unfolding total
+total-step xs i h = rw (add-one, drop-cons xs i 0)
+
+pub total-end : (xs : List ℕ) (i : ℕ) → length xs ≤ i → total (drop i xs) ≡ 0
+unfolding total
+total-end xs i h = rw drop-of-length-le

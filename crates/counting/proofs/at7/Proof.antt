@@ -1,0 +1,19 @@
+use borrow.Author.Needs.{needs}
+use Rattle.counting.proofs.Arrays.{read-past}
+use Rattle.counting.proofs.at7.Statement.{statement}
+use Rattle.counting.proofs.at7.Tie as tie
+
+mul-result : tie.Need-mul-result
+mul-result c = search needs
+
+array-read-result : tie.Need-array-read-result
+array-read-result c = search needs
+
+returns : tie.Need-returns
+returns c = search needs
+
+returns-2 : tie.Need-returns-2
+returns-2 c = search (needs, read-past)
+
+pub at7-spec : {M : Type 1} → statement M
+at7-spec = tie.close (tie.spec mul-result array-read-result returns returns-2)
