@@ -11,6 +11,12 @@ use Rattle.counting.specs.Count.{count, everyOf}
 use Rattle.counting.specs.Order.{Reordered}
 use Rattle.counting.specs.Order.Reordered.{none, keep, swap, then}
 
+pub back : {xs ys : List ℕ} → Reordered xs ys → Reordered ys xs
+back none = none
+back (keep p) = keep (back p)
+back swap = swap
+back (then p q) = then (back q) (back p)
+
 pub reordered-length : {xs ys : List ℕ} → Reordered xs ys → length xs ≡ length ys
 reordered-length none = refl
 reordered-length (keep p) = ap suc (reordered-length p)

@@ -30,6 +30,9 @@ pub every-more : (f : ℕ → Bool) (i : ℕ) → everyBelow i f ≡ true → f 
 unfolding everyBelow
 every-more f i e t = rw (add-one, t) e
 
+pub every-done : (f : ℕ → Bool) (n i : ℕ) → everyBelow i f ≡ true → i ≤ n → n ≤ i → everyBelow n f ≡ true
+every-done f n i e p q = let same : i ≡ n = omega arith in rw (← same) e
+
 pub every-at : (f : ℕ → Bool) (n : ℕ) → everyBelow n f ≡ true → (k : ℕ) → k < n → f k ≡ true
 unfolding everyBelow
 every-at f zero e k h = absurd (omega arith)
@@ -52,6 +55,9 @@ some-none f = refl
 pub some-more : (f : ℕ → Bool) (i : ℕ) → someBelow i f ≡ false → f i ≡ false → someBelow (i + 1) f ≡ false
 unfolding someBelow
 some-more f i e t = rw (add-one, t) e
+
+pub some-done : (f : ℕ → Bool) (n i : ℕ) → someBelow i f ≡ false → i ≤ n → n ≤ i → someBelow n f ≡ false
+some-done f n i e p q = let same : i ≡ n = omega arith in rw (← same) e
 
 pub none-at : (f : ℕ → Bool) (n : ℕ) → someBelow n f ≡ false → (k : ℕ) → k < n → f k ≡ false
 unfolding someBelow

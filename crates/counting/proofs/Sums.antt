@@ -7,11 +7,10 @@ use mathlib.Core.Bool.{Bool, true, false}
 use mathlib.Core.List.{List, [], _∷_}
 use native.Mathlib.Omega.{arith}
 use lib.Dec.{eqb, ltb}
-use lib.ListN.{length}
+use lib.ListN.{length, getD}
 use borrow.Author.Tests.{eqb-true, eqb-false, eq-eqb, ne-eqb, ltb-true, ltb-false}
 use Rattle.counting.specs.Choose.{one}
-use Rattle.counting.specs.Count.{count, everyOf, sumBelow}
-use Rattle.counting.proofs.Tests.{and-true}
+use Rattle.counting.specs.Count.{count, sumBelow}
 use Rattle.counting.proofs.Ranges.{below-suc}
 
 -- how many of the list have the key r
@@ -56,13 +55,16 @@ heaps-within key n [] = omega (arith, sum-zero n)
 heaps-within key n (x ∷ xs) =
     omega (arith, sum-add n (λ r. one (eqb (key x) r)) (heap key xs), on-one-heap n (key x), heaps-within key n xs)
 
-pub heaps-whole : (key : ℕ → ℕ) (n : ℕ) (xs : List ℕ) → everyOf (λ x. ltb (key x) n) xs ≡ true → sumBelow n (heap key xs) ≡ length xs
-unfolding count everyOf
-heaps-whole key n [] e = sum-zero n
-heaps-whole key n (x ∷ xs) e =
-    let both = and-true (ltb (key x) n) (everyOf (λ y. ltb (key y) n) xs) e in
-    omega
-    (arith, sum-add n (λ r. one (eqb (key x) r)) (heap key xs), below n (key x) (ltb-true _ _ (both .0)), heaps-whole key n xs (both .1))
+pub heaps-whole : (key : ℕ → ℕ) (n : ℕ) (xs : List ℕ) → ((k : ℕ) → k < length xs → key (getD xs k 0) < n) → sumBelow n (heap key xs) ≡ length xs
+unfolding count
+heaps-whole key n [] low = sum-zero n
+heaps-whole key n (x ∷ xs) low =
+    omega (
+      arith,
+      sum-add n (λ r. one (eqb (key x) r)) (heap key xs),
+      below n (key x) (low 0 (omega arith)),
+      heaps-whole key n xs (λ k h. low (suc k) (omega arith)),
+    )
 
 sum-le : (n : ℕ) (f g : ℕ → ℕ) → ((r : ℕ) → r < n → f r ≤ g r) → sumBelow n f ≤ sumBelow n g
 unfolding sumBelow

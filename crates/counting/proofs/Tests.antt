@@ -18,11 +18,11 @@ pub or-false : (a b : Bool) → (a || b) ≡ false → (a ≡ false) × (b ≡ f
 or-false true b e = clash true refl e
 or-false false b e = (refl, e)
 
--- two tests that hold on the same grounds are the same test
-pub same-test : (a b : Bool) → (a ≡ true → b ≡ true) → (b ≡ true → a ≡ true) → a ≡ b
+-- two tests that fail on the same grounds are the same test
+pub same-test : (a b : Bool) → (a ≡ false → b ≡ false) → (b ≡ false → a ≡ false) → a ≡ b
 same-test true true f g = refl
-same-test true false f g = clash false (f refl) refl
-same-test false true f g = clash false (g refl) refl
+same-test true false f g = clash true refl (g refl)
+same-test false true f g = clash true refl (f refl)
 same-test false false f g = refl
 
 pub one-le : (b : Bool) → one b ≤ 1
