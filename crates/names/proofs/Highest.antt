@@ -1,0 +1,22 @@
+-- The highest rank that occurs, looked for from the top.
+-- Assumes nothing.
+use Prim.Native.Nat.{ℕ, zero, suc, _-_, _≤_, _<_}
+use mathlib.Core.Path.{_≡_, refl}
+use native.Mathlib.Omega.{arith}
+use borrow.Author.Tests.{lt-ltb, le-ltb}
+use Rattle.names.specs.Lo.{highest}
+
+pub highest-here : (n : ℕ) (h : ℕ → ℕ) → 0 < n → 0 < h (n - 1) → highest n h ≡ n - 1
+unfolding highest
+highest-here zero h a b = absurd (omega arith)
+highest-here (suc n) h a b = let e : suc n - 1 ≡ n = omega arith in rw e (simp (lt-ltb 0 (h n) (rw e at b)))
+
+pub highest-below : (n : ℕ) (h : ℕ → ℕ) → 0 < n → h (n - 1) ≤ 0 → highest n h ≡ highest (n - 1) h
+unfolding highest
+highest-below zero h a b = absurd (omega arith)
+highest-below (suc n) h a b = let e : suc n - 1 ≡ n = omega arith in rw e (simp (le-ltb 0 (h n) (rw e at b)))
+
+pub highest-none : (n : ℕ) (h : ℕ → ℕ) → n ≤ 0 → highest n h ≡ 0
+unfolding highest
+highest-none zero h a = refl
+highest-none (suc n) h a = absurd (omega arith)

@@ -1,0 +1,6 @@
+pub mod Hand
+pub mod Five
+pub mod Board
+pub mod Pocket
+pub mod Lo
+pub mod Top

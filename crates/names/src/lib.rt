@@ -1,0 +1,465 @@
+// What hands are called: five cards, the board, a seat's two cards, and Lo Ball.
+//
+// name_five, name_board, name_pocket and name_lo are the entries: each answers any bytes with the name or with refusal
+// 18 (another number of cards), then 11 (a card above 51, or a repeat). specs/ says what each answers, by how often
+// ranks and suits occur; the code counts in the same way and copies no hand. five_of, board_of, pocket_of and lo_of name
+// cards that a caller knows to be sound; on others they answer what the definition says.
+//
+// proofs/ has the laws: the order of the cards plays no part; what a royal and a straight flush are; over the same three
+// community cards at most two seats hold one of these, and at most one a royal.
+ghost use mathlib.Core.Path.{_≡_};
+ghost use mathlib.Core.Bool.{_&&_, _||_, not};
+ghost use Prim.Native.Nat.{_+_, _≤_};
+ghost use Rattle.counting.specs.Choose.{if_then_else_};
+ghost use Rattle.names.specs.Hand.{ofRank, ofSuit, kinds, flush, rankOn, run, straight, handRefusal};
+ghost use Rattle.names.specs.Five.{nameFive, answerFive, fivePlace};
+ghost use Rattle.names.specs.Board.{nameBoard, answerBoard, boardPlace};
+ghost use Rattle.names.specs.Pocket.{aceFace, namePocket, answerPocket, pocketPlace};
+ghost use Rattle.names.specs.Lo.{highest, isLo, nameLo, answerLo, loHigh};
+
+pub enum FiveName {
+    RoyalFlush,
+    StraightFlush,
+    FourOfAKind,
+    FullHouse,
+    Flush,
+    Straight,
+    ThreeOfAKind,
+    TwoPair,
+    JacksToAces,
+    SixesToTens,
+    Other,
+}
+
+pub enum BoardName {
+    Royal,
+    StraightFlush,
+    ThreeOfAKind,
+    Straight,
+    Flush,
+    Pair,
+    Other,
+}
+
+pub enum PocketName {
+    Aces,
+    // An ace with a king, queen or jack of its suit.
+    AceFaceSuited,
+    AceFace,
+    OtherPair,
+    Nothing,
+}
+
+pub enum LoName {
+    // The highest rank, from 0 for a two to 12 for an ace.
+    High(u8),
+    Nothing,
+}
+
+pub enum FiveAnswer {
+    Name(FiveName),
+    Refused(u8),
+}
+
+pub enum BoardAnswer {
+    Name(BoardName),
+    Refused(u8),
+}
+
+pub enum PocketAnswer {
+    Name(PocketName),
+    Refused(u8),
+}
+
+pub enum LoAnswer {
+    Name(LoName),
+    Refused(u8),
+}
+
+// How many of the cards have the rank r.
+fn of_rank(cards: &[u8], r: u8) -> usize
+    ensures { λ n. ⌜ n ≡ ofRank (now (cards .entry)) r ⌝ }
+{
+    let mut n: usize = 0;
+    let mut i = 0;
+    while i < cards.len() {
+        if cards::rank_of(cards[i]) == r {
+            n += 1;
+        }
+        i += 1;
+    }
+    n
+}
+
+// How many of the cards have the suit s.
+fn of_suit(cards: &[u8], s: u8) -> usize
+    ensures { λ n. ⌜ n ≡ ofSuit (now (cards .entry)) s ⌝ }
+{
+    let mut n: usize = 0;
+    let mut i = 0;
+    while i < cards.len() {
+        if cards::suit_of(cards[i]) == s {
+            n += 1;
+        }
+        i += 1;
+    }
+    n
+}
+
+// Of the n ranks from lo on, how many occur exactly k times.
+fn kinds_of(cards: &[u8], k: usize, lo: u8, n: u8) -> u8
+    requires { ⌜ lo + n ≤ 13 ⌝ }
+    ensures { λ r. ⌜ r ≡ kinds k lo n (ofRank (now (cards .entry))) ⌝ }
+{
+    let mut found: u8 = 0;
+    let mut i: u8 = 0;
+    while i < n {
+        if of_rank(cards, lo + i) == k {
+            found += 1;
+        }
+        i += 1;
+    }
+    found
+}
+
+// Some suit occurs n times.
+fn is_flush(cards: &[u8], n: usize) -> bool
+    ensures { λ r. ⌜ r ≡ flush n (ofSuit (now (cards .entry))) ⌝ }
+{
+    let mut i: u8 = 0;
+    while i < 4 {
+        if of_suit(cards, i) == n {
+            return true;
+        }
+        i += 1;
+    }
+    false
+}
+
+// The rank at a number of the line A 2 3 .. Q K A, 1 to 14.
+fn rank_on(p: u8) -> u8
+    requires { ⌜ 1 ≤ p ⌝ }
+    ensures { λ r. ⌜ r ≡ rankOn p ⌝ }
+{
+    if p == 1 { 12 } else { p - 2 }
+}
+
+// Each of the n ranks from number p of the line on occurs.
+fn is_run(cards: &[u8], n: u8, p: u8) -> bool
+    requires { ⌜ (n ≤ 5) × (1 ≤ p) × (p ≤ 15) ⌝ }
+    ensures { λ r. ⌜ r ≡ run n p (ofRank (now (cards .entry))) ⌝ }
+{
+    let mut i: u8 = 0;
+    while i < n {
+        if of_rank(cards, rank_on(p + i)) < 1 {
+            return false;
+        }
+        i += 1;
+    }
+    true
+}
+
+// The cards are some run of n that ends by the high ace.
+fn is_straight(cards: &[u8], n: u8) -> bool
+    requires { ⌜ n ≤ 5 ⌝ }
+    ensures { λ r. ⌜ r ≡ straight n (ofRank (now (cards .entry))) ⌝ }
+{
+    let mut i: u8 = 0;
+    while i < 15 - n {
+        if is_run(cards, n, i + 1) {
+            return true;
+        }
+        i += 1;
+    }
+    false
+}
+
+// The refusal's number, or 0: 18 before 11.
+fn hand_refusal(cards: &[u8], n: usize) -> u8
+    ensures { λ r. ⌜ r ≡ handRefusal n (now (cards .entry)) ⌝ }
+{
+    if cards.len() != n {
+        return 18;
+    }
+    if cards::is_faulty(cards) {
+        return 11;
+    }
+    0
+}
+
+// The highest name whose test holds, from the top; lower is the name where none of these five does.
+fn upper_five(
+    royal: bool,
+    run: bool,
+    four: bool,
+    full: bool,
+    suited: bool,
+    lower: FiveName,
+) -> FiveName
+    ensures { λ r. ⌜ r ≡ (if royal then FiveName.RoyalFlush else if run then FiveName.StraightFlush else if four then FiveName.FourOfAKind else if full then FiveName.FullHouse else if suited then FiveName.Flush else lower) ⌝ }
+{
+    if royal {
+        return FiveName::RoyalFlush;
+    }
+    if run {
+        return FiveName::StraightFlush;
+    }
+    if four {
+        return FiveName::FourOfAKind;
+    }
+    if full {
+        return FiveName::FullHouse;
+    }
+    if suited {
+        return FiveName::Flush;
+    }
+    lower
+}
+
+fn lower_five(row: bool, three: bool, two_pair: bool, jacks: bool, sixes: bool) -> FiveName
+    ensures { λ r. ⌜ r ≡ (if row then FiveName.Straight else if three then FiveName.ThreeOfAKind else if «two_pair» then FiveName.TwoPair else if jacks then FiveName.JacksToAces else if sixes then FiveName.SixesToTens else FiveName.Other) ⌝ }
+{
+    if row {
+        return FiveName::Straight;
+    }
+    if three {
+        return FiveName::ThreeOfAKind;
+    }
+    if two_pair {
+        return FiveName::TwoPair;
+    }
+    if jacks {
+        return FiveName::JacksToAces;
+    }
+    if sixes {
+        return FiveName::SixesToTens;
+    }
+    FiveName::Other
+}
+
+pub fn five_of(cards: &[u8]) -> FiveName
+    ensures { λ r. ⌜ r ≡ nameFive (now (cards .entry)) ⌝ }
+{
+    let suited = is_flush(cards, 5);
+    let row = is_straight(cards, 5);
+    let threes = kinds_of(cards, 3, 0, 13);
+    let pairs = kinds_of(cards, 2, 0, 13);
+    let jacks = kinds_of(cards, 2, 9, 4);
+    let sixes = kinds_of(cards, 2, 4, 5);
+    let lower = lower_five(row, threes == 1, pairs == 2, jacks == 1, sixes == 1);
+    upper_five(
+        suited & is_run(cards, 5, 10),
+        suited & row,
+        kinds_of(cards, 4, 0, 13) == 1,
+        (threes == 1) & (pairs == 1),
+        suited,
+        lower,
+    )
+}
+
+pub fn name_five(cards: &[u8]) -> FiveAnswer
+    ensures { λ r. ⌜ r ≡ answerFive (now (cards .entry)) ⌝ }
+{
+    let refusal = hand_refusal(cards, 5);
+    if refusal != 0 {
+        return FiveAnswer::Refused(refusal);
+    }
+    FiveAnswer::Name(five_of(cards))
+}
+
+fn upper_board(royal: bool, run: bool, three: bool, row: bool, lower: BoardName) -> BoardName
+    ensures { λ r. ⌜ r ≡ (if royal then BoardName.Royal else if run then BoardName.StraightFlush else if three then BoardName.ThreeOfAKind else if row then BoardName.Straight else lower) ⌝ }
+{
+    if royal {
+        return BoardName::Royal;
+    }
+    if run {
+        return BoardName::StraightFlush;
+    }
+    if three {
+        return BoardName::ThreeOfAKind;
+    }
+    if row {
+        return BoardName::Straight;
+    }
+    lower
+}
+
+fn lower_board(suited: bool, pair: bool) -> BoardName
+    ensures { λ r. ⌜ r ≡ (if suited then BoardName.Flush else if pair then BoardName.Pair else BoardName.Other) ⌝ }
+{
+    if suited {
+        return BoardName::Flush;
+    }
+    if pair {
+        return BoardName::Pair;
+    }
+    BoardName::Other
+}
+
+pub fn board_of(cards: &[u8]) -> BoardName
+    ensures { λ r. ⌜ r ≡ nameBoard (now (cards .entry)) ⌝ }
+{
+    let suited = is_flush(cards, 3);
+    let row = is_straight(cards, 3);
+    let lower = lower_board(suited, kinds_of(cards, 2, 0, 13) == 1);
+    upper_board(
+        suited & is_run(cards, 3, 12),
+        suited & row,
+        kinds_of(cards, 3, 0, 13) == 1,
+        row,
+        lower,
+    )
+}
+
+pub fn name_board(cards: &[u8]) -> BoardAnswer
+    ensures { λ r. ⌜ r ≡ answerBoard (now (cards .entry)) ⌝ }
+{
+    let refusal = hand_refusal(cards, 3);
+    if refusal != 0 {
+        return BoardAnswer::Refused(refusal);
+    }
+    BoardAnswer::Name(board_of(cards))
+}
+
+// One ace, and one of jack, queen and king.
+fn is_ace_face(cards: &[u8]) -> bool
+    ensures { λ r. ⌜ r ≡ aceFace (ofRank (now (cards .entry))) ⌝ }
+{
+    (of_rank(cards, 12) == 1) & (kinds_of(cards, 1, 9, 3) == 1)
+}
+
+fn first_pocket(aces: bool, suited: bool, face: bool, pair: bool) -> PocketName
+    ensures { λ r. ⌜ r ≡ (if aces then PocketName.Aces else if suited then PocketName.AceFaceSuited else if face then PocketName.AceFace else if pair then PocketName.OtherPair else PocketName.Nothing) ⌝ }
+{
+    if aces {
+        return PocketName::Aces;
+    }
+    if suited {
+        return PocketName::AceFaceSuited;
+    }
+    if face {
+        return PocketName::AceFace;
+    }
+    if pair {
+        return PocketName::OtherPair;
+    }
+    PocketName::Nothing
+}
+
+pub fn pocket_of(cards: &[u8]) -> PocketName
+    ensures { λ r. ⌜ r ≡ namePocket (now (cards .entry)) ⌝ }
+{
+    let face = is_ace_face(cards);
+    first_pocket(
+        of_rank(cards, 12) == 2,
+        face & is_flush(cards, 2),
+        face,
+        kinds_of(cards, 2, 0, 13) == 1,
+    )
+}
+
+pub fn name_pocket(cards: &[u8]) -> PocketAnswer
+    ensures { λ r. ⌜ r ≡ answerPocket (now (cards .entry)) ⌝ }
+{
+    let refusal = hand_refusal(cards, 2);
+    if refusal != 0 {
+        return PocketAnswer::Refused(refusal);
+    }
+    PocketAnswer::Name(pocket_of(cards))
+}
+
+// The highest rank that occurs.
+fn highest_of(cards: &[u8]) -> u8
+    ensures { λ r. ⌜ r ≡ highest 13 (ofRank (now (cards .entry))) ⌝ }
+{
+    let mut n: u8 = 13;
+    while 0 < n {
+        if 0 < of_rank(cards, n - 1) {
+            return n - 1;
+        }
+        n -= 1;
+    }
+    0
+}
+
+fn is_lo(cards: &[u8]) -> bool
+    ensures { λ r. ⌜ r ≡ isLo (ofRank (now (cards .entry))) (ofSuit (now (cards .entry))) ⌝ }
+{
+    let apart = kinds_of(cards, 1, 0, 13) == 5;
+    apart & !is_straight(cards, 5) & !is_flush(cards, 5)
+}
+
+pub fn lo_of(cards: &[u8]) -> LoName
+    ensures { λ r. ⌜ r ≡ nameLo (now (cards .entry)) ⌝ }
+{
+    if is_lo(cards) {
+        return LoName::High(highest_of(cards));
+    }
+    LoName::Nothing
+}
+
+pub fn name_lo(cards: &[u8]) -> LoAnswer
+    ensures { λ r. ⌜ r ≡ answerLo (now (cards .entry)) ⌝ }
+{
+    let refusal = hand_refusal(cards, 5);
+    if refusal != 0 {
+        return LoAnswer::Refused(refusal);
+    }
+    LoAnswer::Name(lo_of(cards))
+}
+
+// A name's place in its list, from 0 for the highest.
+pub fn five_place(name: FiveName) -> usize
+    ensures { λ r. ⌜ r ≡ fivePlace name ⌝ }
+{
+    match name {
+        FiveName::RoyalFlush => 0,
+        FiveName::StraightFlush => 1,
+        FiveName::FourOfAKind => 2,
+        FiveName::FullHouse => 3,
+        FiveName::Flush => 4,
+        FiveName::Straight => 5,
+        FiveName::ThreeOfAKind => 6,
+        FiveName::TwoPair => 7,
+        FiveName::JacksToAces => 8,
+        FiveName::SixesToTens => 9,
+        FiveName::Other => 10,
+    }
+}
+
+pub fn board_place(name: BoardName) -> usize
+    ensures { λ r. ⌜ r ≡ boardPlace name ⌝ }
+{
+    match name {
+        BoardName::Royal => 0,
+        BoardName::StraightFlush => 1,
+        BoardName::ThreeOfAKind => 2,
+        BoardName::Straight => 3,
+        BoardName::Flush => 4,
+        BoardName::Pair => 5,
+        BoardName::Other => 6,
+    }
+}
+
+pub fn pocket_place(name: PocketName) -> usize
+    ensures { λ r. ⌜ r ≡ pocketPlace name ⌝ }
+{
+    match name {
+        PocketName::Aces => 0,
+        PocketName::AceFaceSuited => 1,
+        PocketName::AceFace => 2,
+        PocketName::OtherPair => 3,
+        PocketName::Nothing => 4,
+    }
+}
+
+// The high rank, or 13 for nothing.
+pub fn lo_high(name: LoName) -> u8
+    ensures { λ r. ⌜ r ≡ loHigh name ⌝ }
+{
+    match name {
+        LoName::High(rank) => rank,
+        LoName::Nothing => 13,
+    }
+}
