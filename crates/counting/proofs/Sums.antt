@@ -17,7 +17,7 @@ use Rattle.counting.proofs.Ranges.{below-suc}
 abbrev pub heap : (ℕ → ℕ) → List ℕ → ℕ → ℕ
 heap key xs r = count (λ x. eqb (key x) r) xs
 
-sum-add : (n : ℕ) (f g : ℕ → ℕ) → sumBelow n (λ r. f r + g r) ≡ sumBelow n f + sumBelow n g
+pub sum-add : (n : ℕ) (f g : ℕ → ℕ) → sumBelow n (λ r. f r + g r) ≡ sumBelow n f + sumBelow n g
 unfolding sumBelow
 sum-add zero f g = refl
 sum-add (suc n) f g = omega (arith, sum-add n f g)
@@ -33,10 +33,10 @@ unfolding sumBelow
 above zero k h = refl
 above (suc n) k h = omega (arith, ap one (ne-eqb k n (omega arith)), above n k (omega arith))
 
-below : (n k : ℕ) → k < n → sumBelow n (λ r. one (eqb k r)) ≡ 1
+pub on-its-heap : (n k : ℕ) → k < n → sumBelow n (λ r. one (eqb k r)) ≡ 1
 unfolding sumBelow
-below zero k h = absurd (omega arith)
-below (suc n) k h = go (eqb k n) refl (below n k)
+on-its-heap zero k h = absurd (omega arith)
+on-its-heap (suc n) k h = go (eqb k n) refl (on-its-heap n k)
   where
     go : (b : Bool) → eqb k n ≡ b → (k < n → sumBelow n (λ r. one (eqb k r)) ≡ 1) → one (eqb k n) + sumBelow n (λ r. one (eqb k r)) ≡ 1
     go true e rest = let q : k ≡ n = eqb-true k n e in omega (arith, ap one e, above n k (omega arith))
@@ -46,7 +46,7 @@ on-one-heap : (n k : ℕ) → sumBelow n (λ r. one (eqb k r)) ≤ 1
 on-one-heap n k = go (ltb k n) refl
   where
     go : (b : Bool) → ltb k n ≡ b → sumBelow n (λ r. one (eqb k r)) ≤ 1
-    go true e = omega (arith, below n k (ltb-true k n e))
+    go true e = omega (arith, on-its-heap n k (ltb-true k n e))
     go false e = omega (arith, above n k (ltb-false k n e))
 
 pub heaps-within : (key : ℕ → ℕ) (n : ℕ) (xs : List ℕ) → sumBelow n (heap key xs) ≤ length xs
@@ -62,7 +62,7 @@ heaps-whole key n (x ∷ xs) low =
     omega (
       arith,
       sum-add n (λ r. one (eqb (key x) r)) (heap key xs),
-      below n (key x) (low 0 (omega arith)),
+      on-its-heap n (key x) (low 0 (omega arith)),
       heaps-whole key n xs (λ k h. low (suc k) (omega arith)),
     )
 
@@ -70,6 +70,9 @@ sum-le : (n : ℕ) (f g : ℕ → ℕ) → ((r : ℕ) → r < n → f r ≤ g r)
 unfolding sumBelow
 sum-le zero f g h = omega arith
 sum-le (suc n) f g h = omega (arith, h n (omega arith), sum-le n f g (λ r p. h r (omega arith)))
+
+pub sum-same : (n : ℕ) (f g : ℕ → ℕ) → ((r : ℕ) → r < n → f r ≡ g r) → sumBelow n f ≡ sumBelow n g
+sum-same n f g e = omega (arith, sum-le n f g (λ r h. omega (arith, e r h)), sum-le n g f (λ r h. omega (arith, e r h)))
 
 -- f is nowhere above g, and its sum is no smaller: f is g
 pub squeezed : (n : ℕ) (f g : ℕ → ℕ) → ((r : ℕ) → r < n → f r ≤ g r) → sumBelow n g ≤ sumBelow n f → (r : ℕ) → r < n → f r ≡ g r

@@ -1,2 +1,5 @@
 pub mod Answers
 pub mod Highest
+pub mod Orders
+pub mod Tops
+pub mod Seats

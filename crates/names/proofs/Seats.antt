@@ -1,0 +1,158 @@
+-- Over the same three community cards, with hole cards that all differ, at most two seats hold a royal or a straight flush, and at
+-- most one a royal. Two suited runs share the community cards' ranks and no others, so they start two numbers apart, and of three
+-- numbers no two each are.
+-- Assumes nothing.
+use Prim.Native.Nat.{ℕ, _+_, _-_, _≤_, _<_, _/_}
+use mathlib.Core.Path.{_≡_, refl, ap, sym, _∙_}
+use mathlib.Core.Bool.{Bool, true, false, not, _&&_, _||_}
+use mathlib.Core.List.{List, [], _∷_}
+use native.Mathlib.Omega.{arith}
+use lib.Dec.{eqb, leb}
+use lib.ListN.{length}
+use borrow.Author.Tests.{eqb-true, eq-eqb, leb-true}
+use Rattle.counting.specs.Choose.{one}
+use Rattle.counting.specs.Count.{count, everyBelow, someBelow, sumBelow}
+use Rattle.counting.proofs.Tests.{one-le, one-true}
+use Rattle.counting.proofs.Ranges.{every-at, some-where}
+use Rattle.counting.proofs.Sums.{sum-add, sum-same, on-its-heap, heaps-within, squeezed}
+use Rattle.cards.specs.Card.{rank, suit}
+use Rattle.names.specs.Hand.{ofRank, ofSuit, rankOn, run}
+use Rattle.names.specs.Five.{nameFive}
+use Rattle.names.specs.Top.{isRoyal, isTop, SuitedRun, Apart}
+use Rattle.names.proofs.Tops.{royal-is, top-is}
+
+-- ---- the ranks of a run
+
+-- the rank r is one of the five of the run from number p on
+onRun : ℕ → ℕ → Bool
+onRun p r = someBelow 5 (λ i. eqb (rankOn (p + i)) r)
+
+-- a run has five ranks: a test over the ten runs
+hasFive : ℕ → Bool
+hasFive p = eqb (sumBelow 13 (λ r. one (onRun p r))) 5
+
+five-ranks : everyBelow 10 (λ i. hasFive (i + 1)) ≡ true
+unfolding everyBelow sumBelow someBelow onRun rankOn hasFive
+five-ranks = refl
+
+occurs : (h : ℕ → ℕ) (p r : ℕ) → run 5 p h ≡ true → one (onRun p r) ≤ h r
+unfolding run onRun
+occurs h p r e = go (onRun p r) refl
+  where
+    go : (b : Bool) → onRun p r ≡ b → one b ≤ h r
+    go true q =
+        let w = some-where (λ i. eqb (rankOn (p + i)) r) 5 q in
+        let same : rankOn (p + w .0) ≡ r = eqb-true _ _ (w .2) in
+        rw (← same) (leb-true 1 _ (every-at (λ i. leb 1 (h (rankOn (p + i)))) 5 e (w .0) (w .1)))
+    go false q = omega arith
+
+-- five cards that are a run have each of its ranks once, and no other
+ranks : (cs : List ℕ) (u p : ℕ) → length cs ≡ 5 → SuitedRun cs u p → (r : ℕ) → r < 13 → one (onRun p r) ≡ ofRank cs r
+unfolding ofRank hasFive
+ranks cs u p five s =
+    let e : p - 1 + 1 ≡ p = omega arith in
+    let test : hasFive p ≡ true = rw e at (every-at (λ i. hasFive (i + 1)) 10 five-ranks (p - 1) (omega arith)) in
+    let sum : sumBelow 13 (λ r. one (onRun p r)) ≡ 5 = eqb-true _ 5 test in
+    squeezed 13 (λ r. one (onRun p r)) (ofRank cs) (λ r h. occurs (ofRank cs) p r (s .inRun)) (omega (arith, heaps-within rank 13 cs))
+
+-- ---- two runs
+
+apart : ℕ → ℕ → ℕ
+apart p q = (p - q) + (q - p)
+
+-- the ranks of both runs
+common : ℕ → ℕ → ℕ
+common p q = sumBelow 13 (λ r. one (onRun p r && onRun q r))
+
+-- two runs that share three ranks start two numbers apart: a test over all pairs of runs
+farOff : ℕ → ℕ → Bool
+farOff p q = not (eqb (common p q) 3) || eqb (apart p q) 2
+
+two-apart : everyBelow 10 (λ i. everyBelow 10 (λ j. farOff (i + 1) (j + 1))) ≡ true
+unfolding everyBelow sumBelow someBelow onRun rankOn common apart farOff
+two-apart = refl
+
+-- ---- two seats
+
+-- all five cards are of the suit u
+suits : (a b c x y u : ℕ) → ofSuit (a ∷ b ∷ c ∷ x ∷ y ∷ []) u ≡ 5 → (suit a ≡ u) × (suit x ≡ u) × (suit y ≡ u)
+unfolding ofSuit count
+suits a b c x y u e =
+    let most : (z : ℕ) → one (eqb (suit z) u) ≤ 1 = λ z. one-le (eqb (suit z) u) in
+    let is : (z : ℕ) → one (eqb (suit z) u) ≡ 1 → suit z ≡ u = λ z q. eqb-true (suit z) u (one-true _ q) in
+    let ha = most a in
+    let hb = most b in
+    let hc = most c in
+    let hx = most x in
+    let hy = most y in
+    (is a (omega arith), is x (omega arith), is y (omega arith))
+
+-- two different cards of one suit have different ranks
+differ : (x y r : ℕ) → suit x ≡ suit y → (x ≡ y → ⊥) → one (eqb (rank x) r) + one (eqb (rank y) r) ≤ 1
+differ x y r e d = go (eqb (rank x) r) (eqb (rank y) r) refl refl
+  where
+    go : (p q : Bool) → eqb (rank x) r ≡ p → eqb (rank y) r ≡ q → one p + one q ≤ 1
+    go true true p q = absurd (d (omega (arith, eqb-true (rank x) r p, eqb-true (rank y) r q)))
+    go true false p q = omega arith
+    go false q′ p q = omega (arith, one-le q′)
+
+-- at one rank, which k of the community cards have: both runs have it where a community card does
+both-have : (A B p q p′ q′ : Bool) (k : ℕ) → one A ≡ k + (one p + one q) → one B ≡ k + (one p′ + one q′)
+    → one p + one p′ ≤ 1 → one p + one q′ ≤ 1 → one q + one p′ ≤ 1 → one q + one q′ ≤ 1 → one (A && B) ≡ k
+both-have true true true q p′ q′ k e f h₁ h₂ h₃ h₄ = omega arith
+both-have true true false true p′ q′ k e f h₁ h₂ h₃ h₄ = omega arith
+both-have true true false false p′ q′ k e f h₁ h₂ h₃ h₄ = omega arith
+both-have true false p q p′ q′ k e f h₁ h₂ h₃ h₄ = omega arith
+both-have false B p q p′ q′ k e f h₁ h₂ h₃ h₄ = omega arith
+
+module _ (a b c : ℕ) (ha : a < 52) (hb : b < 52) (hc : c < 52) where
+  abbrev hand : ℕ → ℕ → List ℕ
+  hand x y = a ∷ b ∷ c ∷ x ∷ y ∷ []
+
+  pair : (x y x′ y′ u p u′ p′ : ℕ) → SuitedRun (hand x y) u p → SuitedRun (hand x′ y′) u′ p′ → Apart x y x′ y′ → apart p p′ ≡ 2
+  unfolding ofRank count common farOff
+  pair x y x′ y′ u p u′ p′ s s′ d =
+      let t = suits a b c x y u (s .suited) in
+      let t′ = suits a b c x′ y′ u′ (s′ .suited) in
+      let at : ℕ → ℕ → ℕ = λ z r. one (eqb (rank z) r) in
+      let over : (r : ℕ) → r < 13 → one (onRun p r && onRun p′ r) ≡ at a r + (at b r + at c r) =
+      λ r h. both-have (onRun p r) (onRun p′ r) (eqb (rank x) r) (eqb (rank y) r) (eqb (rank x′) r) (eqb (rank y′) r)
+      (at a r + (at b r + at c r)) (omega (arith, ranks (hand x y) u p refl s r h)) (omega (arith, ranks (hand x′ y′) u′ p′ refl s′ r h))
+      (differ x x′ r (omega arith) (d .0 .0)) (differ x y′ r (omega arith) (d .0 .1)) (differ y x′ r (omega arith) (d .1 .0)) (differ y y′ r (omega arith) (d .1 .1)) in
+      let three : common p p′ ≡ 3 =
+      omega (
+        arith,
+        sum-same 13 (λ r. one (onRun p r && onRun p′ r)) (λ r. at a r + (at b r + at c r)) over,
+        sum-add 13 (at a) (λ r. at b r + at c r),
+        sum-add 13 (at b) (at c),
+        on-its-heap 13 (rank a) (omega arith),
+        on-its-heap 13 (rank b) (omega arith),
+        on-its-heap 13 (rank c) (omega arith),
+      ) in
+      let e : p - 1 + 1 ≡ p = omega arith in
+      let e′ : p′ - 1 + 1 ≡ p′ = omega arith in
+      let row = every-at (λ i. everyBelow 10 (λ j. farOff (i + 1) (j + 1))) 10 two-apart (p - 1) (omega arith) in
+      let test : farOff p p′ ≡ true = rw (e, e′) at (every-at (λ j. farOff (p - 1 + 1) (j + 1)) 10 row (p′ - 1) (omega arith)) in
+      eqb-true (apart p p′) 2 (rw (eq-eqb (common p p′) 3 three) at test)
+
+  -- no three seats hold a royal or a straight flush
+  pub no-three-tops : (x y x′ y′ x″ y″ : ℕ) → isTop (nameFive (hand x y)) ≡ true → isTop (nameFive (hand x′ y′)) ≡ true → isTop (nameFive (hand x″ y″)) ≡ true
+      → Apart x y x′ y′ → Apart x y x″ y″ → Apart x′ y′ x″ y″ → ⊥
+  unfolding apart
+  no-three-tops x y x′ y′ x″ y″ t t′ t″ d e f =
+      let s = top-is (hand x y) t in
+      let s′ = top-is (hand x′ y′) t′ in
+      let s″ = top-is (hand x″ y″) t″ in
+      let first = pair x y x′ y′ (s .0) (s .1) (s′ .0) (s′ .1) (s .2) (s′ .2) d in
+      let second = pair x y x″ y″ (s .0) (s .1) (s″ .0) (s″ .1) (s .2) (s″ .2) e in
+      let third = pair x′ y′ x″ y″ (s′ .0) (s′ .1) (s″ .0) (s″ .1) (s′ .2) (s″ .2) f in
+      omega (arith, first, second, third)
+
+  -- no two seats hold a royal flush
+  pub no-two-royals : (x y x′ y′ : ℕ) → isRoyal (nameFive (hand x y)) ≡ true → isRoyal (nameFive (hand x′ y′)) ≡ true → Apart x y x′ y′ → ⊥
+  unfolding apart
+  no-two-royals x y x′ y′ t t′ d =
+      let s = royal-is (hand x y) t in
+      let s′ = royal-is (hand x′ y′) t′ in
+      let none = pair x y x′ y′ (s .0) 10 (s′ .0) 10 (s .1) (s′ .1) d in
+      omega (arith, none)

@@ -1,0 +1,50 @@
+-- The round maximum: how a pool of wins is shared. Wins, shares and the maximum are whole dollars.
+-- Assumes nothing.
+use Prim.Native.Nat.{ℕ, _*_, _/_}
+use mathlib.Core.Bool.{Bool, true, false, not, _||_}
+use mathlib.Core.List.{List, map}
+use lib.Dec.{eqb, leb, ltb}
+use lib.ListN.{length}
+use Rattle.counting.specs.Choose.{if_then_else_}
+use Rattle.counting.specs.Count.{everyOf, total}
+use Rattle.pool.specs.declared.Shared.{Shared}
+use Rattle.pool.specs.declared.Shared.the-variants.{Full, Cut, Refused}
+
+-- If the pool's total is at most the maximum, all are paid in full. Otherwise each gets maximum × its win ÷ total, rounded down to
+-- a dollar; the rest stays with the house.
+unfoldable pub shareOf : ℕ → ℕ → ℕ → ℕ
+shareOf maximum pool win = if leb pool maximum then win else maximum * win / pool
+
+unfoldable pub sharesOf : ℕ → List ℕ → List ℕ
+sharesOf maximum wins = map (shareOf maximum (total wins)) wins
+
+-- no win is above 500,000
+unfoldable pub winsFit : List ℕ → Bool
+winsFit wins = everyOf (λ win. leb win 500000) wins
+
+-- The number of the refusal, 0 where there is none. 19: sharing lists differ in length or exceed 7. 20: a win or the maximum is
+-- above its limit. (room: how long the list for the shares is.)
+unfoldable pub shareRefusal : List ℕ → ℕ → ℕ → ℕ
+shareRefusal wins maximum room =
+    if not (eqb (length wins) room) || ltb 7 (length wins) then 19
+    else if not (winsFit wins) || ltb 75000 maximum then 20
+    else 0
+
+-- what is answered on any input: refused with its number, or all paid in full, or cut to their shares
+unfoldable pub shareAnswer : List ℕ → ℕ → ℕ → Shared
+shareAnswer wins maximum room =
+    if not (eqb (shareRefusal wins maximum room) 0) then Refused (shareRefusal wins maximum room)
+    else if leb (total wins) maximum then Full
+    else Cut
+
+-- what the lent list then holds, on any input: a refusal leaves it as it was
+unfoldable pub shareList : List ℕ → ℕ → List ℕ → List ℕ
+shareList wins maximum lent =
+    if not (eqb (shareRefusal wins maximum (length lent)) 0) then lent
+    else sharesOf maximum wins
+
+-- this paper's number for each answer: the refusal's, and 0 where the pool was shared
+abbrev pub numberOf : Shared → ℕ
+numberOf Full = 0
+numberOf Cut = 0
+numberOf (Refused number) = number

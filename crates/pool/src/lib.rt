@@ -1,0 +1,104 @@
+// The sharing of the round maximum among the base wins at odds above 50.
+//
+// share is the entry: it answers every input and has no `requires`. specs/Pool.antt says what it answers and what the
+// lent list then holds; specs/Shares.antt has the laws of a share, the only things that callers cite. All wins,
+// shares and maximums are whole dollars.
+ghost use mathlib.Core.Path.{_≡_};
+ghost use mathlib.Core.Bool.{true};
+ghost use mathlib.Core.List.{map};
+ghost use Prim.Native.Nat.{_*_, _≤_};
+ghost use lib.ListN.{length};
+ghost use Rattle.counting.specs.Count.{total};
+ghost use Rattle.pool.specs.Pool.{shareOf, winsFit, shareRefusal, shareAnswer, shareList};
+
+// The answer of share.
+pub enum Shared {
+    // Every win is paid in full.
+    Full,
+    // The pool exceeds the maximum: each win is cut to its share.
+    Cut,
+    // 19 or 20; the lent list is as it was.
+    Refused(u8),
+}
+
+// No win is above 500,000.
+fn wins_fit(wins: &[u64]) -> bool
+    ensures { λ r. ⌜ r ≡ winsFit (now (wins .entry)) ⌝ }
+{
+    let mut i = 0;
+    while i < wins.len() {
+        if 500000 < wins[i] {
+            return false;
+        }
+        i += 1;
+    }
+    true
+}
+
+// The refusal's number, or 0.
+fn share_refusal(wins: &[u64], maximum: u64, room: usize) -> u8
+    ensures { λ r. ⌜ r ≡ shareRefusal (now (wins .entry)) maximum room ⌝ }
+{
+    if (wins.len() != room) | (7 < wins.len()) {
+        return 19;
+    }
+    if !wins_fit(wins) | (75000 < maximum) {
+        return 20;
+    }
+    0
+}
+
+// The pool's total.
+fn total_of(wins: &[u64]) -> u64
+    requires { ⌜ total (now wins) ≤ 3500000 ⌝ }
+    ensures { λ r. ⌜ r ≡ total (now (wins .entry)) ⌝ }
+{
+    let mut sum: u64 = 0;
+    let mut i = 0;
+    while i < wins.len() {
+        sum += wins[i];
+        i += 1;
+    }
+    sum
+}
+
+// One win's share.
+fn share_of(win: u64, maximum: u64, pool: u64) -> u64
+    requires { ⌜ (win ≤ 500000) × (maximum ≤ 75000) ⌝ }
+    ensures { λ r. ⌜ r ≡ shareOf maximum pool win ⌝ }
+{
+    if pool <= maximum {
+        return win;
+    }
+    maximum * win / pool
+}
+
+// Every win's share, into a list as long.
+fn fill(wins: &[u64], maximum: u64, pool: u64, shares: &mut [u64])
+    requires { ⌜ (length (now wins) ≡ length (now shares)) × (winsFit (now wins) ≡ true) ⌝ }
+    requires { ⌜ maximum ≤ 75000 ⌝ }
+    ensures { λ r. ⌜ now (shares .exit) ≡ map (shareOf maximum pool) (now (wins .entry)) ⌝ }
+{
+    let mut i = 0;
+    while i < wins.len() {
+        shares[i] = share_of(wins[i], maximum, pool);
+        i += 1;
+    }
+}
+
+// Shares the maximum among up to seven wins, and writes each win's share at its place of an equally long list.
+pub fn share(wins: &[u64], maximum: u64, shares: &mut [u64]) -> Shared
+    ensures answer { λ r. ⌜ r ≡ shareAnswer (now (wins .entry)) maximum (length (now (shares .entry))) ⌝ }
+    ensures list { λ r. ⌜ now (shares .exit) ≡ shareList (now (wins .entry)) maximum (now (shares .entry)) ⌝ }
+{
+    let refusal = share_refusal(wins, maximum, shares.len());
+    if refusal != 0 {
+        return Shared::Refused(refusal);
+    }
+    let pool = total_of(wins);
+    fill(wins, maximum, pool, shares);
+    if pool <= maximum {
+        return Shared::Full;
+    }
+    Shared::Cut
+}
