@@ -3,7 +3,7 @@
 use Prim.Native.Nat.{ℕ}
 use mathlib.Core.Path.{_≡_, sym}
 use borrow.Author.Tests.{eq-eqb, ne-eqb}
-use Rattle.names.specs.Hand.{answer}
+use Rattle.names.specs.Answer.{answer}
 
 module _ {Name Answer : Type 0} (named : Name → Answer) (refused : ℕ → Answer) (name : Name) where
   pub is-refused : (n m : ℕ) → n ≡ m → (n ≡ 0 → ⊥) → refused n ≡ answer named refused m name

@@ -1,5 +1,4 @@
 pub mod Answers
-pub mod Highest
 pub mod Orders
 pub mod Tops
 pub mod Seats

@@ -8,7 +8,7 @@ use Rattle.counting.specs.Order.{Reordered}
 use Rattle.counting.proofs.Orders.{reordered-length, reordered-count}
 use Rattle.cards.specs.Card.{rank, suit}
 use Rattle.cards.proofs.Orders.{reordered-faulty}
-use Rattle.names.specs.Hand.{ofRank, ofSuit, handRefusal}
+use Rattle.hands.specs.Hand.{ofRank, ofSuit, handRefusal}
 use Rattle.names.specs.Five.{fiveBy, nameFive, answerFive}
 use Rattle.names.specs.Board.{boardBy, nameBoard, answerBoard}
 use Rattle.names.specs.Pocket.{pocketBy, namePocket, answerPocket}

@@ -16,7 +16,7 @@ use Rattle.counting.proofs.Tests.{one-le, one-true}
 use Rattle.counting.proofs.Ranges.{every-at, some-where}
 use Rattle.counting.proofs.Sums.{sum-add, sum-same, on-its-heap, heaps-within, squeezed}
 use Rattle.cards.specs.Card.{rank, suit}
-use Rattle.names.specs.Hand.{ofRank, ofSuit, rankOn, run}
+use Rattle.hands.specs.Hand.{ofRank, ofSuit, rankOn, run}
 use Rattle.names.specs.Five.{nameFive}
 use Rattle.names.specs.Top.{isRoyal, isTop, SuitedRun, Apart}
 use Rattle.names.proofs.Tops.{royal-is, top-is}

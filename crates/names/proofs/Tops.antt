@@ -12,7 +12,7 @@ use Rattle.counting.specs.Choose.{if_then_else_}
 use Rattle.counting.proofs.Tests.{and-true}
 use Rattle.counting.proofs.Ranges.{some-where, some-here}
 use Rattle.cards.specs.Card.{six, jack}
-use Rattle.names.specs.Hand.{ofRank, ofSuit, kinds, ofAKind, flush, run, straight}
+use Rattle.hands.specs.Hand.{ofRank, ofSuit, kinds, ofAKind, flush, run, straight}
 use Rattle.names.specs.Five.{fiveBy, nameFive, fivePlace}
 use Rattle.names.specs.Top.{isRoyal, isTop, SuitedRun}
 use Rattle.names.specs.declared.FiveName.{FiveName}

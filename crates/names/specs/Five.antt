@@ -6,7 +6,8 @@ use mathlib.Core.List.{List}
 use lib.Dec.{eqb}
 use Rattle.counting.specs.Choose.{if_then_else_}
 use Rattle.cards.specs.Card.{six, jack}
-use Rattle.names.specs.Hand.{ofRank, ofSuit, kinds, ofAKind, flush, run, straight, handRefusal, answer}
+use Rattle.hands.specs.Hand.{ofRank, ofSuit, kinds, ofAKind, flush, run, straight, handRefusal}
+use Rattle.names.specs.Answer.{answer}
 use Rattle.names.specs.declared.FiveName.{FiveName}
 use Rattle.names.specs.declared.FiveName.the-variants.{RoyalFlush, StraightFlush, FourOfAKind, FullHouse, Flush, Straight, ThreeOfAKind, TwoPair, JacksToAces, SixesToTens, Other}
 use Rattle.names.specs.declared.FiveAnswer.{FiveAnswer}

@@ -1,4 +1,4 @@
-pub mod Hand
+pub mod Answer
 pub mod Five
 pub mod Board
 pub mod Pocket

@@ -1,20 +1,16 @@
 -- The Lo Ball name of five cards.
 -- Assumes nothing.
-use Prim.Native.Nat.{ℕ, zero, suc}
+use Prim.Native.Nat.{ℕ}
 use mathlib.Core.Bool.{Bool, not, _&&_}
 use mathlib.Core.List.{List}
-use lib.Dec.{eqb, ltb}
+use lib.Dec.{eqb}
 use Rattle.counting.specs.Choose.{if_then_else_}
-use Rattle.names.specs.Hand.{ofRank, ofSuit, kinds, ofAKind, flush, straight, handRefusal, answer}
+use Rattle.hands.specs.Hand.{ofRank, ofSuit, kinds, ofAKind, flush, straight, highest, handRefusal}
+use Rattle.names.specs.Answer.{answer}
 use Rattle.names.specs.declared.LoName.{LoName}
 use Rattle.names.specs.declared.LoName.the-variants.{High, Nothing}
 use Rattle.names.specs.declared.LoAnswer.{LoAnswer}
 use Rattle.names.specs.declared.LoAnswer.the-variants.{Name, Refused}
-
--- the highest of the ranks below n that occurs
-unfoldable pub highest : ℕ → (ℕ → ℕ) → ℕ
-highest zero h = 0
-highest (suc n) h = if ltb 0 (h n) then n else highest n h
 
 -- all five ranks differ, and there is no straight or flush
 unfoldable pub isLo : (ℕ → ℕ) → (ℕ → ℕ) → Bool

@@ -6,7 +6,8 @@ use mathlib.Core.List.{List}
 use lib.Dec.{eqb}
 use Rattle.counting.specs.Choose.{if_then_else_}
 use Rattle.cards.specs.Card.{jack, ace}
-use Rattle.names.specs.Hand.{ofRank, ofSuit, kinds, ofAKind, flush, handRefusal, answer}
+use Rattle.hands.specs.Hand.{ofRank, ofSuit, kinds, ofAKind, flush, handRefusal}
+use Rattle.names.specs.Answer.{answer}
 use Rattle.names.specs.declared.PocketName.{PocketName}
 use Rattle.names.specs.declared.PocketName.the-variants.{Aces, AceFaceSuited, AceFace, OtherPair, Nothing}
 use Rattle.names.specs.declared.PocketAnswer.{PocketAnswer}

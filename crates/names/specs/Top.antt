@@ -7,7 +7,7 @@ use Prim.Native.Nat.{ℕ, _≤_, _<_}
 use lib.Dec.{eqb, ltb}
 use Rattle.names.specs.declared.FiveName.{FiveName}
 use Rattle.names.specs.Five.{fivePlace}
-use Rattle.names.specs.Hand.{ofRank, ofSuit, run}
+use Rattle.hands.specs.Hand.{ofRank, ofSuit, run}
 
 abbrev pub isRoyal : FiveName → Bool
 isRoyal name = eqb (fivePlace name) 0

@@ -8,14 +8,12 @@
 // proofs/ has the laws: the order of the cards plays no part; what a royal and a straight flush are; over the same three
 // community cards at most two seats hold one of these, and at most one a royal.
 ghost use mathlib.Core.Path.{_≡_};
-ghost use mathlib.Core.Bool.{_&&_, _||_, not};
-ghost use Prim.Native.Nat.{_+_, _≤_};
 ghost use Rattle.counting.specs.Choose.{if_then_else_};
-ghost use Rattle.names.specs.Hand.{ofRank, ofSuit, kinds, flush, rankOn, run, straight, handRefusal};
+ghost use Rattle.hands.specs.Hand.{ofRank, ofSuit};
 ghost use Rattle.names.specs.Five.{nameFive, answerFive, fivePlace};
 ghost use Rattle.names.specs.Board.{nameBoard, answerBoard, boardPlace};
 ghost use Rattle.names.specs.Pocket.{aceFace, namePocket, answerPocket, pocketPlace};
-ghost use Rattle.names.specs.Lo.{highest, isLo, nameLo, answerLo, loHigh};
+ghost use Rattle.names.specs.Lo.{isLo, nameLo, answerLo, loHigh};
 
 pub enum FiveName {
     RoyalFlush,
@@ -76,117 +74,6 @@ pub enum LoAnswer {
     Refused(u8),
 }
 
-// How many of the cards have the rank r.
-fn of_rank(cards: &[u8], r: u8) -> usize
-    ensures { λ n. ⌜ n ≡ ofRank (now (cards .entry)) r ⌝ }
-{
-    let mut n: usize = 0;
-    let mut i = 0;
-    while i < cards.len() {
-        if cards::rank_of(cards[i]) == r {
-            n += 1;
-        }
-        i += 1;
-    }
-    n
-}
-
-// How many of the cards have the suit s.
-fn of_suit(cards: &[u8], s: u8) -> usize
-    ensures { λ n. ⌜ n ≡ ofSuit (now (cards .entry)) s ⌝ }
-{
-    let mut n: usize = 0;
-    let mut i = 0;
-    while i < cards.len() {
-        if cards::suit_of(cards[i]) == s {
-            n += 1;
-        }
-        i += 1;
-    }
-    n
-}
-
-// Of the n ranks from lo on, how many occur exactly k times.
-fn kinds_of(cards: &[u8], k: usize, lo: u8, n: u8) -> u8
-    requires { ⌜ lo + n ≤ 13 ⌝ }
-    ensures { λ r. ⌜ r ≡ kinds k lo n (ofRank (now (cards .entry))) ⌝ }
-{
-    let mut found: u8 = 0;
-    let mut i: u8 = 0;
-    while i < n {
-        if of_rank(cards, lo + i) == k {
-            found += 1;
-        }
-        i += 1;
-    }
-    found
-}
-
-// Some suit occurs n times.
-fn is_flush(cards: &[u8], n: usize) -> bool
-    ensures { λ r. ⌜ r ≡ flush n (ofSuit (now (cards .entry))) ⌝ }
-{
-    let mut i: u8 = 0;
-    while i < 4 {
-        if of_suit(cards, i) == n {
-            return true;
-        }
-        i += 1;
-    }
-    false
-}
-
-// The rank at a number of the line A 2 3 .. Q K A, 1 to 14.
-fn rank_on(p: u8) -> u8
-    requires { ⌜ 1 ≤ p ⌝ }
-    ensures { λ r. ⌜ r ≡ rankOn p ⌝ }
-{
-    if p == 1 { 12 } else { p - 2 }
-}
-
-// Each of the n ranks from number p of the line on occurs.
-fn is_run(cards: &[u8], n: u8, p: u8) -> bool
-    requires { ⌜ (n ≤ 5) × (1 ≤ p) × (p ≤ 15) ⌝ }
-    ensures { λ r. ⌜ r ≡ run n p (ofRank (now (cards .entry))) ⌝ }
-{
-    let mut i: u8 = 0;
-    while i < n {
-        if of_rank(cards, rank_on(p + i)) < 1 {
-            return false;
-        }
-        i += 1;
-    }
-    true
-}
-
-// The cards are some run of n that ends by the high ace.
-fn is_straight(cards: &[u8], n: u8) -> bool
-    requires { ⌜ n ≤ 5 ⌝ }
-    ensures { λ r. ⌜ r ≡ straight n (ofRank (now (cards .entry))) ⌝ }
-{
-    let mut i: u8 = 0;
-    while i < 15 - n {
-        if is_run(cards, n, i + 1) {
-            return true;
-        }
-        i += 1;
-    }
-    false
-}
-
-// The refusal's number, or 0: 18 before 11.
-fn hand_refusal(cards: &[u8], n: usize) -> u8
-    ensures { λ r. ⌜ r ≡ handRefusal n (now (cards .entry)) ⌝ }
-{
-    if cards.len() != n {
-        return 18;
-    }
-    if cards::is_faulty(cards) {
-        return 11;
-    }
-    0
-}
-
 // The highest name whose test holds, from the top; lower is the name where none of these five does.
 fn upper_five(
     royal: bool,
@@ -240,17 +127,17 @@ fn lower_five(row: bool, three: bool, two_pair: bool, jacks: bool, sixes: bool) 
 pub fn five_of(cards: &[u8]) -> FiveName
     ensures { λ r. ⌜ r ≡ nameFive (now (cards .entry)) ⌝ }
 {
-    let suited = is_flush(cards, 5);
-    let row = is_straight(cards, 5);
-    let threes = kinds_of(cards, 3, 0, 13);
-    let pairs = kinds_of(cards, 2, 0, 13);
-    let jacks = kinds_of(cards, 2, 9, 4);
-    let sixes = kinds_of(cards, 2, 4, 5);
+    let suited = hands::is_flush(cards, 5);
+    let row = hands::is_straight(cards, 5);
+    let threes = hands::kinds_of(cards, 3, 0, 13);
+    let pairs = hands::kinds_of(cards, 2, 0, 13);
+    let jacks = hands::kinds_of(cards, 2, 9, 4);
+    let sixes = hands::kinds_of(cards, 2, 4, 5);
     let lower = lower_five(row, threes == 1, pairs == 2, jacks == 1, sixes == 1);
     upper_five(
-        suited & is_run(cards, 5, 10),
+        suited & hands::is_run(cards, 5, 10),
         suited & row,
-        kinds_of(cards, 4, 0, 13) == 1,
+        hands::kinds_of(cards, 4, 0, 13) == 1,
         (threes == 1) & (pairs == 1),
         suited,
         lower,
@@ -260,7 +147,7 @@ pub fn five_of(cards: &[u8]) -> FiveName
 pub fn name_five(cards: &[u8]) -> FiveAnswer
     ensures { λ r. ⌜ r ≡ answerFive (now (cards .entry)) ⌝ }
 {
-    let refusal = hand_refusal(cards, 5);
+    let refusal = hands::hand_refusal(cards, 5);
     if refusal != 0 {
         return FiveAnswer::Refused(refusal);
     }
@@ -300,13 +187,13 @@ fn lower_board(suited: bool, pair: bool) -> BoardName
 pub fn board_of(cards: &[u8]) -> BoardName
     ensures { λ r. ⌜ r ≡ nameBoard (now (cards .entry)) ⌝ }
 {
-    let suited = is_flush(cards, 3);
-    let row = is_straight(cards, 3);
-    let lower = lower_board(suited, kinds_of(cards, 2, 0, 13) == 1);
+    let suited = hands::is_flush(cards, 3);
+    let row = hands::is_straight(cards, 3);
+    let lower = lower_board(suited, hands::kinds_of(cards, 2, 0, 13) == 1);
     upper_board(
-        suited & is_run(cards, 3, 12),
+        suited & hands::is_run(cards, 3, 12),
         suited & row,
-        kinds_of(cards, 3, 0, 13) == 1,
+        hands::kinds_of(cards, 3, 0, 13) == 1,
         row,
         lower,
     )
@@ -315,7 +202,7 @@ pub fn board_of(cards: &[u8]) -> BoardName
 pub fn name_board(cards: &[u8]) -> BoardAnswer
     ensures { λ r. ⌜ r ≡ answerBoard (now (cards .entry)) ⌝ }
 {
-    let refusal = hand_refusal(cards, 3);
+    let refusal = hands::hand_refusal(cards, 3);
     if refusal != 0 {
         return BoardAnswer::Refused(refusal);
     }
@@ -326,7 +213,7 @@ pub fn name_board(cards: &[u8]) -> BoardAnswer
 fn is_ace_face(cards: &[u8]) -> bool
     ensures { λ r. ⌜ r ≡ aceFace (ofRank (now (cards .entry))) ⌝ }
 {
-    (of_rank(cards, 12) == 1) & (kinds_of(cards, 1, 9, 3) == 1)
+    (hands::of_rank(cards, 12) == 1) & (hands::kinds_of(cards, 1, 9, 3) == 1)
 }
 
 fn first_pocket(aces: bool, suited: bool, face: bool, pair: bool) -> PocketName
@@ -352,49 +239,35 @@ pub fn pocket_of(cards: &[u8]) -> PocketName
 {
     let face = is_ace_face(cards);
     first_pocket(
-        of_rank(cards, 12) == 2,
-        face & is_flush(cards, 2),
+        hands::of_rank(cards, 12) == 2,
+        face & hands::is_flush(cards, 2),
         face,
-        kinds_of(cards, 2, 0, 13) == 1,
+        hands::kinds_of(cards, 2, 0, 13) == 1,
     )
 }
 
 pub fn name_pocket(cards: &[u8]) -> PocketAnswer
     ensures { λ r. ⌜ r ≡ answerPocket (now (cards .entry)) ⌝ }
 {
-    let refusal = hand_refusal(cards, 2);
+    let refusal = hands::hand_refusal(cards, 2);
     if refusal != 0 {
         return PocketAnswer::Refused(refusal);
     }
     PocketAnswer::Name(pocket_of(cards))
 }
 
-// The highest rank that occurs.
-fn highest_of(cards: &[u8]) -> u8
-    ensures { λ r. ⌜ r ≡ highest 13 (ofRank (now (cards .entry))) ⌝ }
-{
-    let mut n: u8 = 13;
-    while 0 < n {
-        if 0 < of_rank(cards, n - 1) {
-            return n - 1;
-        }
-        n -= 1;
-    }
-    0
-}
-
 fn is_lo(cards: &[u8]) -> bool
     ensures { λ r. ⌜ r ≡ isLo (ofRank (now (cards .entry))) (ofSuit (now (cards .entry))) ⌝ }
 {
-    let apart = kinds_of(cards, 1, 0, 13) == 5;
-    apart & !is_straight(cards, 5) & !is_flush(cards, 5)
+    let apart = hands::kinds_of(cards, 1, 0, 13) == 5;
+    apart & !hands::is_straight(cards, 5) & !hands::is_flush(cards, 5)
 }
 
 pub fn lo_of(cards: &[u8]) -> LoName
     ensures { λ r. ⌜ r ≡ nameLo (now (cards .entry)) ⌝ }
 {
     if is_lo(cards) {
-        return LoName::High(highest_of(cards));
+        return LoName::High(hands::highest_of(cards));
     }
     LoName::Nothing
 }
@@ -402,7 +275,7 @@ pub fn lo_of(cards: &[u8]) -> LoName
 pub fn name_lo(cards: &[u8]) -> LoAnswer
     ensures { λ r. ⌜ r ≡ answerLo (now (cards .entry)) ⌝ }
 {
-    let refusal = hand_refusal(cards, 5);
+    let refusal = hands::hand_refusal(cards, 5);
     if refusal != 0 {
         return LoAnswer::Refused(refusal);
     }

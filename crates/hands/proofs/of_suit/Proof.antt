@@ -7,9 +7,9 @@ use borrow.Author.Tests.{eq-eqb, ne-eqb}
 use borrow.Author.Needs.{needs}
 use Rattle.counting.proofs.Lists.{Counted, count-hit, count-miss, count-done}
 use Rattle.cards.specs.Card.{suit}
-use Rattle.names.specs.Hand.{ofSuit}
-use Rattle.names.proofs.of_suit.Statement.{statement}
-use Rattle.names.proofs.of_suit.Tie as tie
+use Rattle.hands.specs.Hand.{ofSuit}
+use Rattle.hands.proofs.of_suit.Statement.{statement}
+use Rattle.hands.proofs.of_suit.Tie as tie
 
 abbrev Inv-loop : tie.InvT-loop
 Inv-loop cards s n₀ i₀ n i = Counted (λ c. eqb (suit c) s) cards n i

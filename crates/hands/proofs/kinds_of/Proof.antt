@@ -4,9 +4,9 @@ use lib.Dec.{eqb}
 use borrow.Author.Tests.{eq-eqb, ne-eqb}
 use borrow.Author.Needs.{needs}
 use Rattle.counting.proofs.Ranges.{Tallied, tally-none, tally-hit, tally-miss, tally-done}
-use Rattle.names.specs.Hand.{ofRank, kinds}
-use Rattle.names.proofs.kinds_of.Statement.{statement}
-use Rattle.names.proofs.kinds_of.Tie as tie
+use Rattle.hands.specs.Hand.{ofRank, kinds}
+use Rattle.hands.proofs.kinds_of.Statement.{statement}
+use Rattle.hands.proofs.kinds_of.Tie as tie
 
 abbrev Inv-loop : tie.InvT-loop
 Inv-loop cards k lo n found₀ i₀ found i = Tallied n (λ j. eqb (ofRank cards (lo + j)) k) found i
@@ -16,6 +16,9 @@ abbrev μ-loop : tie.MeasureT-loop
 
 loop-holds : tie.Need-loop-holds Inv-loop μ-loop
 loop-holds c = tally-none _ _
+
+cast-of-rank : tie.Need-cast-of-rank Inv-loop μ-loop
+cast-of-rank c = search needs
 
 add-of-rank : tie.Need-add-of-rank Inv-loop μ-loop
 add-of-rank c = search needs
@@ -52,6 +55,7 @@ kinds-of-spec =
     Inv-loop
     μ-loop
     loop-holds
+    cast-of-rank
     add-of-rank
     of-rank-requires
     add-found

@@ -6,9 +6,9 @@ use borrow.Author.Tests.{le-leb, lt-leb}
 use borrow.Author.Needs.{needs}
 use Rattle.counting.specs.Count.{everyBelow}
 use Rattle.counting.proofs.Ranges.{every-none, every-more, every-done, every-broken}
-use Rattle.names.specs.Hand.{ofRank, rankOn, run}
-use Rattle.names.proofs.is_run.Statement.{statement}
-use Rattle.names.proofs.is_run.Tie as tie
+use Rattle.hands.specs.Hand.{ofRank, rankOn, run}
+use Rattle.hands.proofs.is_run.Statement.{statement}
+use Rattle.hands.proofs.is_run.Tie as tie
 
 abbrev Inv-loop : tie.InvT-loop
 Inv-loop cards n p i₀ i = (i ≤ n) × (everyBelow i (λ j. leb 1 (ofRank cards (rankOn (p + j)))) ≡ true)
@@ -18,6 +18,9 @@ abbrev μ-loop : tie.MeasureT-loop
 
 loop-holds : tie.Need-loop-holds Inv-loop μ-loop
 loop-holds c = (search needs, every-none _)
+
+cast-rank-on : tie.Need-cast-rank-on Inv-loop μ-loop
+cast-rank-on c = search needs
 
 add-rank-on : tie.Need-add-rank-on Inv-loop μ-loop
 add-rank-on c = search needs
@@ -58,6 +61,7 @@ is-run-spec =
     Inv-loop
     μ-loop
     loop-holds
+    cast-rank-on
     add-rank-on
     rank-on-requires
     of-rank-requires

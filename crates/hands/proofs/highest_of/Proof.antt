@@ -2,11 +2,10 @@ use Prim.Native.Nat.{_≤_}
 use mathlib.Core.Path.{_≡_, refl, sym, _∙_}
 use native.Mathlib.Omega.{arith}
 use borrow.Author.Needs.{needs}
-use Rattle.names.specs.Hand.{ofRank}
-use Rattle.names.specs.Lo.{highest}
-use Rattle.names.proofs.Highest.{highest-here, highest-below, highest-none}
-use Rattle.names.proofs.highest_of.Statement.{statement}
-use Rattle.names.proofs.highest_of.Tie as tie
+use Rattle.hands.specs.Hand.{ofRank, highest}
+use Rattle.hands.proofs.Highest.{highest-here, highest-below, highest-none}
+use Rattle.hands.proofs.highest_of.Statement.{statement}
+use Rattle.hands.proofs.highest_of.Tie as tie
 
 abbrev Inv-loop : tie.InvT-loop
 Inv-loop cards n₀ n = (n ≤ 13) × (highest n (ofRank cards) ≡ highest 13 (ofRank cards))
@@ -17,22 +16,19 @@ abbrev μ-loop : tie.MeasureT-loop
 loop-holds : tie.Need-loop-holds Inv-loop μ-loop
 loop-holds c = (omega arith, refl)
 
-sub-of-rank : tie.Need-sub-of-rank Inv-loop μ-loop
-sub-of-rank c = search needs
+sub-rank : tie.Need-sub-rank Inv-loop μ-loop
+sub-rank c = search needs
+
+cast-of-rank : tie.Need-cast-of-rank Inv-loop μ-loop
+cast-of-rank c = search needs
 
 of-rank-requires : tie.Need-of-rank-requires Inv-loop μ-loop
 of-rank-requires c κs = search needs
-
-sub-result : tie.Need-sub-result Inv-loop μ-loop
-sub-result c = search needs
 
 returns : tie.Need-returns Inv-loop μ-loop
 returns c =
     let p = c .before .before in
     sym (highest-here _ _ (p .loop-test .taken) (rw (c .before .of-rank .ensures) at (c .if1 .taken))) ∙ p .before .loop .inv .1
-
-sub-n : tie.Need-sub-n Inv-loop μ-loop
-sub-n c = search needs
 
 loop-less : tie.Need-loop-less Inv-loop μ-loop
 loop-less c = search needs
@@ -52,11 +48,10 @@ highest-of-spec =
     Inv-loop
     μ-loop
     loop-holds
-    sub-of-rank
+    sub-rank
+    cast-of-rank
     of-rank-requires
-    sub-result
     returns
-    sub-n
     loop-less
     loop-again
     returns-2)

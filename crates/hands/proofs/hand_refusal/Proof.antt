@@ -1,9 +1,9 @@
 use mathlib.Core.Path.{sym, _∙_}
 use borrow.Author.Tests.{eq-eqb, ne-eqb}
 use borrow.Author.Needs.{needs}
-use Rattle.names.specs.Hand.{handRefusal}
-use Rattle.names.proofs.hand_refusal.Statement.{statement}
-use Rattle.names.proofs.hand_refusal.Tie as tie
+use Rattle.hands.specs.Hand.{handRefusal}
+use Rattle.hands.proofs.hand_refusal.Statement.{statement}
+use Rattle.hands.proofs.hand_refusal.Tie as tie
 
 returns : tie.Need-returns
 unfolding handRefusal

@@ -7,9 +7,9 @@ use borrow.Author.Tests.{eq-eqb, ne-eqb}
 use borrow.Author.Needs.{needs}
 use Rattle.counting.proofs.Lists.{Counted, count-hit, count-miss, count-done}
 use Rattle.cards.specs.Card.{rank}
-use Rattle.names.specs.Hand.{ofRank}
-use Rattle.names.proofs.of_rank.Statement.{statement}
-use Rattle.names.proofs.of_rank.Tie as tie
+use Rattle.hands.specs.Hand.{ofRank}
+use Rattle.hands.proofs.of_rank.Statement.{statement}
+use Rattle.hands.proofs.of_rank.Tie as tie
 
 abbrev Inv-loop : tie.InvT-loop
 Inv-loop cards r n₀ i₀ n i = Counted (λ c. eqb (rank c) r) cards n i
@@ -25,6 +25,9 @@ shared-slice-read-rank-of c = search needs
 
 rank-of-requires : tie.Need-rank-of-requires Inv-loop μ-loop
 rank-of-requires c κs = search needs
+
+cast-if1 : tie.Need-cast-if1 Inv-loop μ-loop
+cast-if1 c = search needs
 
 add-n : tie.Need-add-n Inv-loop μ-loop
 add-n c = search needs
@@ -56,6 +59,7 @@ of-rank-spec =
     loop-holds
     shared-slice-read-rank-of
     rank-of-requires
+    cast-if1
     add-n
     add-i
     loop-less

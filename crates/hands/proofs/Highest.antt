@@ -4,7 +4,7 @@ use Prim.Native.Nat.{ℕ, zero, suc, _-_, _≤_, _<_}
 use mathlib.Core.Path.{_≡_, refl}
 use native.Mathlib.Omega.{arith}
 use borrow.Author.Tests.{lt-ltb, le-ltb}
-use Rattle.names.specs.Lo.{highest}
+use Rattle.hands.specs.Hand.{highest}
 
 pub highest-here : (n : ℕ) (h : ℕ → ℕ) → 0 < n → 0 < h (n - 1) → highest n h ≡ n - 1
 unfolding highest

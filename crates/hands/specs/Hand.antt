@@ -1,9 +1,9 @@
 -- What names are made of: how often ranks and suits occur, runs, and the refusals of a hand.
 -- Assumes nothing.
-use Prim.Native.Nat.{ℕ, _+_, _-_}
+use Prim.Native.Nat.{ℕ, zero, suc, _+_, _-_}
 use mathlib.Core.Bool.{Bool, not}
 use mathlib.Core.List.{List}
-use lib.Dec.{eqb, leb}
+use lib.Dec.{eqb, leb, ltb}
 use lib.ListN.{length}
 use Rattle.counting.specs.Choose.{if_then_else_}
 use Rattle.counting.specs.Count.{count, tally, everyBelow, someBelow}
@@ -44,6 +44,11 @@ run n p h = everyBelow n (λ i. leb 1 (h (rankOn (p + i))))
 unfoldable pub straight : ℕ → (ℕ → ℕ) → Bool
 straight n h = someBelow (15 - n) (λ i. run n (i + 1) h)
 
+-- the highest of the ranks below n that occurs
+unfoldable pub highest : ℕ → (ℕ → ℕ) → ℕ
+highest zero h = 0
+highest (suc n) h = if ltb 0 (h n) then n else highest n h
+
 -- The number of the refusal of a hand that must be n cards, 0 where there is none. 18: the hand isn't n cards. 11: a card above 51,
 -- or a repeat.
 unfoldable pub handRefusal : ℕ → List ℕ → ℕ
@@ -51,7 +56,3 @@ handRefusal n cs =
     if not (eqb (length cs) n) then 18
     else if faulty cs then 11
     else 0
-
--- An answer: refused with number n, or the name where n is 0. (The first two are the answer's cases.)
-unfoldable pub answer : {Name Answer : Type 0} → (Name → Answer) → (ℕ → Answer) → ℕ → Name → Answer
-answer named refused n name = if eqb n 0 then named name else refused n

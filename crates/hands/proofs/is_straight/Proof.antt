@@ -1,13 +1,13 @@
-use Prim.Native.Nat.{_+_, _≤_, _-_}
+use Prim.Native.Nat.{_+_, _≤_, _<_, _-_}
 use mathlib.Core.Path.{_≡_, sym, _∙_}
 use mathlib.Core.Bool.{false}
 use native.Mathlib.Omega.{arith}
 use borrow.Author.Needs.{needs}
 use Rattle.counting.specs.Count.{someBelow}
 use Rattle.counting.proofs.Ranges.{some-none, some-more, some-done, some-here}
-use Rattle.names.specs.Hand.{ofRank, run, straight}
-use Rattle.names.proofs.is_straight.Statement.{statement}
-use Rattle.names.proofs.is_straight.Tie as tie
+use Rattle.hands.specs.Hand.{ofRank, run, straight}
+use Rattle.hands.proofs.is_straight.Statement.{statement}
+use Rattle.hands.proofs.is_straight.Tie as tie
 
 abbrev Inv-loop : tie.InvT-loop
 Inv-loop cards n i₀ i = (i ≤ 15 - n) × (someBelow i (λ j. run n (j + 1) (ofRank cards)) ≡ false)
@@ -18,8 +18,11 @@ abbrev μ-loop : tie.MeasureT-loop
 loop-holds : tie.Need-loop-holds Inv-loop μ-loop
 loop-holds c = (search needs, some-none _)
 
-sub-loop : tie.Need-sub-loop Inv-loop μ-loop
-sub-loop c = search needs
+cast-loop : tie.Need-cast-loop Inv-loop μ-loop
+cast-loop c = search needs
+
+add-loop : tie.Need-add-loop Inv-loop μ-loop
+add-loop c = search needs
 
 add-is-run : tie.Need-add-is-run Inv-loop μ-loop
 add-is-run c = search needs
@@ -31,7 +34,8 @@ returns : tie.Need-returns Inv-loop μ-loop
 unfolding straight
 returns c =
     let p = c .before .before in
-    sym (some-here _ _ _ (p .loop-test .taken) (sym (c .before .is-run .ensures) ∙ c .if1 .taken))
+    let l : p .before .loop .i < 15 - p .before .before .before .args .n = omega arith in
+    sym (some-here _ _ _ l (sym (c .before .is-run .ensures) ∙ c .if1 .taken))
 
 add-i : tie.Need-add-i Inv-loop μ-loop
 add-i c = search needs
@@ -48,7 +52,8 @@ returns-2 : tie.Need-returns-2 Inv-loop μ-loop
 unfolding straight
 returns-2 c =
     let v = c .before .loop .inv in
-    sym (some-done _ _ _ (v .1) (v .0) (c .loop-test .left))
+    let l : 15 - c .before .before .before .args .n ≤ c .before .loop .i = omega arith in
+    sym (some-done _ _ _ (v .1) (v .0) l)
 
 pub is-straight-spec : {M : Type 1} → statement M
 is-straight-spec =
@@ -57,7 +62,8 @@ is-straight-spec =
     Inv-loop
     μ-loop
     loop-holds
-    sub-loop
+    cast-loop
+    add-loop
     add-is-run
     is-run-requires
     returns

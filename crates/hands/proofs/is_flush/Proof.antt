@@ -6,9 +6,9 @@ use borrow.Author.Tests.{eq-eqb, ne-eqb}
 use borrow.Author.Needs.{needs}
 use Rattle.counting.specs.Count.{someBelow}
 use Rattle.counting.proofs.Ranges.{some-none, some-more, some-done, some-here}
-use Rattle.names.specs.Hand.{ofSuit, flush}
-use Rattle.names.proofs.is_flush.Statement.{statement}
-use Rattle.names.proofs.is_flush.Tie as tie
+use Rattle.hands.specs.Hand.{ofSuit, flush}
+use Rattle.hands.proofs.is_flush.Statement.{statement}
+use Rattle.hands.proofs.is_flush.Tie as tie
 
 abbrev Inv-loop : tie.InvT-loop
 Inv-loop cards n i₀ i = (i ≤ 4) × (someBelow i (λ s. eqb (ofSuit cards s) n) ≡ false)
