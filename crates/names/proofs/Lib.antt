@@ -1,4 +1,2 @@
 pub mod Answers
 pub mod Orders
-pub mod Tops
-pub mod Seats

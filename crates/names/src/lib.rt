@@ -5,8 +5,7 @@
 // ranks and suits occur; the code counts in the same way and copies no hand. five_of, board_of, pocket_of and lo_of name
 // cards that a caller knows to be sound; on others they answer what the definition says.
 //
-// proofs/ has the laws: the order of the cards plays no part; what a royal and a straight flush are; over the same three
-// community cards at most two seats hold one of these, and at most one a royal.
+// proofs/Orders.antt has the law that the order of the cards plays no part.
 ghost use mathlib.Core.Path.{_≡_};
 ghost use Rattle.counting.specs.Choose.{if_then_else_};
 ghost use Rattle.hands.specs.Hand.{ofRank, ofSuit};

@@ -17,9 +17,10 @@ use Rattle.counting.proofs.Ranges.{every-at, some-where}
 use Rattle.counting.proofs.Sums.{sum-add, sum-same, on-its-heap, heaps-within, squeezed}
 use Rattle.cards.specs.Card.{rank, suit}
 use Rattle.hands.specs.Hand.{ofRank, ofSuit, rankOn, run}
 use Rattle.names.specs.Five.{nameFive}
-use Rattle.names.specs.Top.{isRoyal, isTop, SuitedRun, Apart}
-use Rattle.names.proofs.Tops.{royal-is, top-is}
+use Rattle.names.specs.Top.{isRoyal, isTop}
+use Rattle.tops.specs.Run.{SuitedRun, Apart}
+use Rattle.tops.proofs.Names.{royal-is, top-is}
 
 -- ---- the ranks of a run
 

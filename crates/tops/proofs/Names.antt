@@ -13,10 +13,11 @@ use Rattle.counting.proofs.Tests.{and-true}
 use Rattle.counting.proofs.Ranges.{some-where, some-here}
 use Rattle.cards.specs.Card.{six, jack}
 use Rattle.hands.specs.Hand.{ofRank, ofSuit, kinds, ofAKind, flush, run, straight}
 use Rattle.names.specs.Five.{fiveBy, nameFive, fivePlace}
-use Rattle.names.specs.Top.{isRoyal, isTop, SuitedRun}
+use Rattle.names.specs.Top.{isRoyal, isTop}
+use Rattle.tops.specs.Run.{SuitedRun}
 use Rattle.names.specs.declared.FiveName.{FiveName}
 use Rattle.names.specs.declared.FiveName.the-variants.{RoyalFlush, StraightFlush, FourOfAKind, FullHouse, Flush, Straight, ThreeOfAKind, TwoPair, JacksToAces, SixesToTens, Other}
 
 -- a choice between two names from place n on is one
 from : (n : ℕ) (b : Bool) (x y : FiveName) → n ≤ fivePlace x → n ≤ fivePlace y → n ≤ fivePlace (if b then x else y)
