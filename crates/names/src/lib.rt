@@ -9,10 +9,10 @@
 ghost use mathlib.Core.Path.{_≡_};
 ghost use Rattle.counting.specs.Choose.{if_then_else_};
 ghost use Rattle.hands.specs.Hand.{ofRank, ofSuit};
-ghost use Rattle.names.specs.Five.{nameFive, answerFive, fivePlace};
-ghost use Rattle.names.specs.Board.{nameBoard, answerBoard, boardPlace};
-ghost use Rattle.names.specs.Pocket.{aceFace, namePocket, answerPocket, pocketPlace};
-ghost use Rattle.names.specs.Lo.{isLo, nameLo, answerLo, loHigh};
+ghost use Rattle.names.specs.Five.{nameFive, answerFive};
+ghost use Rattle.names.specs.Board.{nameBoard, answerBoard};
+ghost use Rattle.names.specs.Pocket.{aceFace, namePocket, answerPocket};
+ghost use Rattle.names.specs.Lo.{isLo, nameLo, answerLo};
 
 pub enum FiveName {
     RoyalFlush,
@@ -279,59 +279,4 @@ pub fn name_lo(cards: &[u8]) -> LoAnswer
         return LoAnswer::Refused(refusal);
     }
     LoAnswer::Name(lo_of(cards))
-}
-
-// A name's place in its list, from 0 for the highest.
-pub fn five_place(name: FiveName) -> usize
-    ensures { λ r. ⌜ r ≡ fivePlace name ⌝ }
-{
-    match name {
-        FiveName::RoyalFlush => 0,
-        FiveName::StraightFlush => 1,
-        FiveName::FourOfAKind => 2,
-        FiveName::FullHouse => 3,
-        FiveName::Flush => 4,
-        FiveName::Straight => 5,
-        FiveName::ThreeOfAKind => 6,
-        FiveName::TwoPair => 7,
-        FiveName::JacksToAces => 8,
-        FiveName::SixesToTens => 9,
-        FiveName::Other => 10,
-    }
-}
-
-pub fn board_place(name: BoardName) -> usize
-    ensures { λ r. ⌜ r ≡ boardPlace name ⌝ }
-{
-    match name {
-        BoardName::Royal => 0,
-        BoardName::StraightFlush => 1,
-        BoardName::ThreeOfAKind => 2,
-        BoardName::Straight => 3,
-        BoardName::Flush => 4,
-        BoardName::Pair => 5,
-        BoardName::Other => 6,
-    }
-}
-
-pub fn pocket_place(name: PocketName) -> usize
-    ensures { λ r. ⌜ r ≡ pocketPlace name ⌝ }
-{
-    match name {
-        PocketName::Aces => 0,
-        PocketName::AceFaceSuited => 1,
-        PocketName::AceFace => 2,
-        PocketName::OtherPair => 3,
-        PocketName::Nothing => 4,
-    }
-}
-
-// The high rank, or 13 for nothing.
-pub fn lo_high(name: LoName) -> u8
-    ensures { λ r. ⌜ r ≡ loHigh name ⌝ }
-{
-    match name {
-        LoName::High(rank) => rank,
-        LoName::Nothing => 13,
-    }
 }

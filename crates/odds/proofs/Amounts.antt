@@ -1,0 +1,24 @@
+-- What a win, a push and a loss hand back: a win at n to 1 is n + 1 wagers, a push is the wager, and a push is told from a loss by
+-- any wager that was placed.
+-- Assumes nothing.
+use Prim.Native.Nat.{ℕ, _+_, _*_, _<_}
+use mathlib.Core.Path.{_≡_, refl}
+use native.Mathlib.Omega.{arith}
+use native.Mathlib.Nat.{add-mul}
+use Rattle.odds.specs.declared.Pay.the-variants.{To, ThreeToTwo, Push, Loss}
+use Rattle.odds.specs.Amounts.{handedBack}
+
+pub win-back : (odds wager : ℕ) → handedBack (To odds) wager ≡ 100 * ((odds + 1) * wager)
+win-back odds wager = rw (add-mul odds 1 wager) (omega arith)
+
+pub three-to-two-back : (wager : ℕ) → 2 * handedBack ThreeToTwo wager ≡ 5 * (100 * wager)
+three-to-two-back wager = omega arith
+
+pub push-back : (wager : ℕ) → handedBack Push wager ≡ 100 * wager
+push-back wager = refl
+
+pub loss-back : (wager : ℕ) → handedBack Loss wager ≡ 0
+loss-back wager = refl
+
+pub push-is-no-loss : (wager : ℕ) → 0 < wager → handedBack Loss wager < handedBack Push wager
+push-is-no-loss wager placed = omega arith

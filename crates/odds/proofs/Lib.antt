@@ -1,0 +1,4 @@
+pub mod Places
+pub mod Lines
+pub mod Above
+pub mod Amounts

@@ -1,0 +1,24 @@
+use borrow.Author.Tests.{eq-eqb, ne-eqb}
+use borrow.Author.Needs.{needs}
+use Rattle.odds.specs.Pays.{saidBy}
+use Rattle.odds.proofs.said.Statement.{statement}
+use Rattle.odds.proofs.said.Tie as tie
+
+returns : tie.Need-returns
+unfolding saidBy
+returns c = simp (eq-eqb _ _ (c .if1 .taken))
+
+returns-2 : tie.Need-returns-2
+unfolding saidBy
+returns-2 c = simp (ne-eqb _ _ (c .before .if1 .left), eq-eqb _ _ (c .if2 .taken))
+
+returns-3 : tie.Need-returns-3
+unfolding saidBy
+returns-3 c = simp (ne-eqb _ _ (c .before .before .if1 .left), ne-eqb _ _ (c .before .if2 .left), eq-eqb _ _ (c .if3 .taken))
+
+returns-4 : tie.Need-returns-4
+unfolding saidBy
+returns-4 c = simp (ne-eqb _ _ (c .before .before .if1 .left), ne-eqb _ _ (c .before .if2 .left), ne-eqb _ _ (c .if3 .left))
+
+pub said-spec : {M : Type 1} → statement M
+said-spec = tie.close (tie.spec returns returns-2 returns-3 returns-4)

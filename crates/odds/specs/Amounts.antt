@@ -1,0 +1,23 @@
+-- What is handed back, in cents, of a wager in dollars; and which odds are above 50.
+-- Assumes nothing.
+use Prim.Native.Nat.{ℕ, _+_, _*_}
+use mathlib.Core.Bool.{Bool, false}
+use lib.Dec.{ltb}
+use Rattle.odds.specs.declared.Pay.{Pay}
+use Rattle.odds.specs.declared.Pay.the-variants.{To, ThreeToTwo, Push, Loss, NoTable}
+
+-- A win hands back the wager and odds × wager; a push the wager; a loss nothing. (A dollar at 3 to 2 wins 150 cents.)
+abbrev pub handedBack : Pay → ℕ → ℕ
+handedBack (To odds) wager = 100 * wager + 100 * (odds * wager)
+handedBack ThreeToTwo wager = 100 * wager + 150 * wager
+handedBack Push wager = 100 * wager
+handedBack Loss wager = 0
+handedBack NoTable wager = 0
+
+-- the odds are above 50
+abbrev pub aboveFifty : Pay → Bool
+aboveFifty (To odds) = ltb 50 odds
+aboveFifty ThreeToTwo = false
+aboveFifty Push = false
+aboveFifty Loss = false
+aboveFifty NoTable = false

@@ -1,0 +1,258 @@
+// The pay tables: what a wager's pay table says of a name, and what that hands back.
+//
+// The tables are constant arrays, laid out as the rule sheet prints them: a line for each name, and in it the odds of each
+// pay table at the place of its number. base_pay, lo_pay, board_pay and pocket_pay choose by the table's number and
+// answer NoTable where there is none; handed_back gives the cents. No function has a `requires`.
+//
+// proofs/Above.antt has the rule that only a royal flush and a straight flush are paid at odds above 50, shown once, over
+// the whole base table.
+ghost use mathlib.Core.Path.{_≡_};
+ghost use mathlib.Core.Bool.{_&&_};
+ghost use Prim.Native.Nat.{_+_, _*_, _-_};
+ghost use lib.Dec.{leb};
+ghost use Rattle.counting.specs.Choose.{if_then_else_};
+ghost use Rattle.names.specs.Five.{fivePlace};
+ghost use Rattle.names.specs.Board.{boardPlace};
+ghost use Rattle.names.specs.Pocket.{pocketPlace};
+ghost use Rattle.odds.specs.Pays.{saidBy, loPlace, basePay, loPay, boardPay, pocketPay};
+ghost use Rattle.odds.specs.Amounts.{handedBack, aboveFifty};
+use names::BoardName;
+use names::FiveName;
+use names::LoName;
+use names::PocketName;
+
+// What a pay table says of a name.
+pub enum Pay {
+    // A win at these odds to 1.
+    To(u16),
+    // A win at 3 to 2.
+    ThreeToTwo,
+    Push,
+    Loss,
+    // The wager has no pay table of this number.
+    NoTable,
+}
+
+// The tables hold odds to 1 as they are printed, and these numbers for what is printed in words or as a fraction.
+const THREE_TO_TWO: u16 = 65533;
+
+const PUSH: u16 = 65534;
+
+const LOSS: u16 = 65535;
+
+const BASE: [[u16; 5]; 11] = [
+    // Royal flush, straight flush, four, full house.
+    [500, 500, 500, 500, 500],
+    [100, 100, 100, 100, 100],
+    [40, 40, 40, 40, 40],
+    [10, 10, 11, 11, 10],
+    // Flush, straight, three, two pair.
+    [6, 6, 7, 7, 8],
+    [4, 4, 4, 5, 4],
+    [3, 3, 3, 3, 3],
+    [THREE_TO_TWO, 2, THREE_TO_TWO, THREE_TO_TWO, THREE_TO_TWO],
+    // Jacks to aces, sixes to tens, other.
+    [1, 1, 1, 1, 1],
+    [PUSH, PUSH, PUSH, PUSH, PUSH],
+    [LOSS, LOSS, LOSS, LOSS, LOSS],
+];
+
+const LO: [[u16; 2]; 7] = [
+    // 7, 8, 9 and 10 high.
+    [100, 100],
+    [50, 50],
+    [15, 10],
+    [5, 5],
+    // Jack high, queen high, other.
+    [1, 1],
+    [LOSS, PUSH],
+    [LOSS, LOSS],
+];
+
+const BOARD: [[u16; 4]; 7] = [
+    // Royal, straight flush, three of a kind.
+    [50, 50, 40, 50],
+    [40, 40, 40, 40],
+    [30, 30, 30, 30],
+    // Straight, flush, pair, other.
+    [6, 5, 5, 6],
+    [3, 4, 4, 4],
+    [1, 1, 1, 1],
+    [LOSS, LOSS, LOSS, LOSS],
+];
+
+const POCKET: [[u16; 3]; 5] = [
+    // Pair of aces, ace with a face card suited, the same unsuited, other pair, nothing.
+    [25, 30, 30],
+    [20, 20, 20],
+    [10, 10, 10],
+    [5, 5, 4],
+    [LOSS, LOSS, LOSS],
+];
+
+// What a number of a table says.
+fn said(number: u16) -> Pay
+    ensures { λ r. ⌜ r ≡ saidBy number ⌝ }
+{
+    if number == LOSS {
+        return Pay::Loss;
+    }
+    if number == PUSH {
+        return Pay::Push;
+    }
+    if number == THREE_TO_TWO {
+        return Pay::ThreeToTwo;
+    }
+    Pay::To(number)
+}
+
+// A name's line in its table, from 0 for the highest.
+pub fn five_place(name: FiveName) -> usize
+    ensures { λ r. ⌜ r ≡ fivePlace name ⌝ }
+{
+    match name {
+        FiveName::RoyalFlush => 0,
+        FiveName::StraightFlush => 1,
+        FiveName::FourOfAKind => 2,
+        FiveName::FullHouse => 3,
+        FiveName::Flush => 4,
+        FiveName::Straight => 5,
+        FiveName::ThreeOfAKind => 6,
+        FiveName::TwoPair => 7,
+        FiveName::JacksToAces => 8,
+        FiveName::SixesToTens => 9,
+        FiveName::Other => 10,
+    }
+}
+
+pub fn board_place(name: BoardName) -> usize
+    ensures { λ r. ⌜ r ≡ boardPlace name ⌝ }
+{
+    match name {
+        BoardName::Royal => 0,
+        BoardName::StraightFlush => 1,
+        BoardName::ThreeOfAKind => 2,
+        BoardName::Straight => 3,
+        BoardName::Flush => 4,
+        BoardName::Pair => 5,
+        BoardName::Other => 6,
+    }
+}
+
+pub fn pocket_place(name: PocketName) -> usize
+    ensures { λ r. ⌜ r ≡ pocketPlace name ⌝ }
+{
+    match name {
+        PocketName::Aces => 0,
+        PocketName::AceFaceSuited => 1,
+        PocketName::AceFace => 2,
+        PocketName::OtherPair => 3,
+        PocketName::Nothing => 4,
+    }
+}
+
+pub fn lo_place(name: LoName) -> usize
+    ensures { λ r. ⌜ r ≡ loPlace name ⌝ }
+{
+    match name {
+        LoName::High(rank) => lo_line(rank),
+        LoName::Nothing => 6,
+    }
+}
+
+// 7 high to queen high have a line each; the last line is for every other rank.
+fn lo_line(rank: u8) -> usize
+    ensures { λ r. ⌜ r ≡ (if leb 5 rank && leb rank 10 then rank - 5 else 6) ⌝ }
+{
+    if rank < 5 {
+        return 6;
+    }
+    if 10 < rank {
+        return 6;
+    }
+    (rank - 5) as usize
+}
+
+pub fn base_pay(table: u8, name: FiveName) -> Pay
+    ensures { λ r. ⌜ r ≡ basePay table name ⌝ }
+{
+    if table < 1 {
+        return Pay::NoTable;
+    }
+    if 5 < table {
+        return Pay::NoTable;
+    }
+    let line = BASE[five_place(name)];
+    said(line[table as usize - 1])
+}
+
+pub fn lo_pay(table: u8, name: LoName) -> Pay
+    ensures { λ r. ⌜ r ≡ loPay table name ⌝ }
+{
+    if table < 1 {
+        return Pay::NoTable;
+    }
+    if 2 < table {
+        return Pay::NoTable;
+    }
+    let line = LO[lo_place(name)];
+    said(line[table as usize - 1])
+}
+
+pub fn board_pay(table: u8, name: BoardName) -> Pay
+    ensures { λ r. ⌜ r ≡ boardPay table name ⌝ }
+{
+    if table < 1 {
+        return Pay::NoTable;
+    }
+    if 4 < table {
+        return Pay::NoTable;
+    }
+    let line = BOARD[board_place(name)];
+    said(line[table as usize - 1])
+}
+
+pub fn pocket_pay(table: u8, name: PocketName) -> Pay
+    ensures { λ r. ⌜ r ≡ pocketPay table name ⌝ }
+{
+    if table < 1 {
+        return Pay::NoTable;
+    }
+    if 3 < table {
+        return Pay::NoTable;
+    }
+    let line = POCKET[pocket_place(name)];
+    said(line[table as usize - 1])
+}
+
+// The cents that a win at odds to 1 hands back.
+fn won(odds: u16, wager: u32) -> u64
+    ensures { λ r. ⌜ r ≡ 100 * wager + 100 * (odds * wager) ⌝ }
+{
+    100 * (wager as u64) + 100 * (odds as u64 * wager as u64)
+}
+
+// What is handed back, in cents, of a wager in dollars.
+pub fn handed_back(pay: Pay, wager: u32) -> u64
+    ensures { λ r. ⌜ r ≡ handedBack pay wager ⌝ }
+{
+    match pay {
+        Pay::To(odds) => won(odds, wager),
+        Pay::ThreeToTwo => 100 * (wager as u64) + 150 * (wager as u64),
+        Pay::Push => 100 * (wager as u64),
+        Pay::Loss => 0,
+        Pay::NoTable => 0,
+    }
+}
+
+pub fn is_above_fifty(pay: Pay) -> bool
+    ensures { λ r. ⌜ r ≡ aboveFifty pay ⌝ }
+{
+    match pay {
+        Pay::To(odds) => 50 < odds,
+        Pay::ThreeToTwo => false,
+        Pay::Push => false,
+        Pay::Loss => false,
+        Pay::NoTable => false,
+    }
+}
