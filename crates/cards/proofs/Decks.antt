@@ -1,11 +1,11 @@
 -- What follows where cards have no fault, and that a whole deck holds each of the 52 cards exactly once.
 -- Assumes nothing.
 use Prim.Native.Nat.{ℕ, zero, suc, _≤_, _<_}
-use mathlib.Core.Path.{_≡_, refl, sym, _∙_}
-use mathlib.Core.Bool.{Bool, true, false, not}
+use mathlib.Core.Path.{_≡_, refl}
+use mathlib.Core.Bool.{true, false, not}
 use mathlib.Core.List.{List}
 use native.Mathlib.Omega.{arith}
-use lib.Dec.{eqb, ltb}
+use lib.Dec.{eqb}
 use lib.ListN.{length, getD}
 use borrow.Author.Tests.{leb-true, eqb-true, not-true, not-false}
 use Rattle.counting.specs.Count.{everyOf, sumBelow}
@@ -14,7 +14,7 @@ use Rattle.counting.proofs.Lists.{everyOf-at}
 use Rattle.counting.proofs.Sums.{heaps-whole, squeezed}
 use Rattle.cards.specs.Card.{isCard}
 use Rattle.cards.specs.Deck.{repeats, faulty, wholeDeck}
-use Rattle.cards.proofs.Repeats.{copies, once-each, places-differ}
+use Rattle.cards.proofs.Repeats.{copies, once-each}
 
 module _ (cs : List ℕ) (sound : faulty cs ≡ false) where
   parts : (not (everyOf isCard cs) ≡ false) × (repeats cs ≡ false)

@@ -1,8 +1,8 @@
 -- The order of the cards plays no part in their faults.
 -- Assumes nothing.
-use Prim.Native.Nat.{ℕ, _≤_}
-use mathlib.Core.Path.{_≡_, refl, ap, sym, _∙_}
-use mathlib.Core.Bool.{Bool, true, false}
+use Prim.Native.Nat.{ℕ}
+use mathlib.Core.Path.{_≡_}
+use mathlib.Core.Bool.{false}
 use mathlib.Core.List.{List}
 use lib.Dec.{eqb}
 use Rattle.counting.specs.Order.{Reordered}
@@ -10,7 +10,7 @@ use Rattle.counting.proofs.Orders.{back, reordered-count, reordered-every}
 use Rattle.counting.proofs.Tests.{same-test}
 use Rattle.cards.specs.Card.{isCard}
 use Rattle.cards.specs.Deck.{repeats, faulty}
-use Rattle.cards.proofs.Repeats.{copies, once-each, each-once}
+use Rattle.cards.proofs.Repeats.{once-each, each-once}
 
 -- by counts, which the order leaves
 reordered-once : {xs ys : List ℕ} → Reordered xs ys → repeats xs ≡ false → repeats ys ≡ false

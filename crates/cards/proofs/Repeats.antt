@@ -11,7 +11,7 @@ use lib.ListN.{length, getD}
 use borrow.Author.Tests.{eqb-true, eqb-false, eq-eqb, ne-eqb}
 use Rattle.counting.specs.Choose.{one}
 use Rattle.counting.specs.Count.{count}
-use Rattle.counting.proofs.Ranges.{some-where, none-at, none-of}
+use Rattle.counting.proofs.Ranges.{none-at, none-of}
 use Rattle.cards.specs.Deck.{sameAt, repeatedAt, repeats}
 
 -- ---- by places

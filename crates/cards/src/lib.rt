@@ -4,7 +4,6 @@
 // bytes. proofs/ has the laws: a deck with no repeat by places is one with no repeat by counts, a whole deck holds each of
 // the 52 cards exactly once, and the order of cards plays no part in their faults.
 ghost use mathlib.Core.Path.{_≡_};
-ghost use mathlib.Core.Bool.{_&&_, _||_, not};
 ghost use Rattle.counting.specs.Count.{everyOf};
 ghost use Rattle.cards.specs.Card.{isCard, rank, suit};
 ghost use Rattle.cards.specs.Deck.{repeats, faulty, wholeDeck};

@@ -2,15 +2,15 @@
 -- of each number.
 -- Assumes nothing.
 use Prim.Native.Nat.{ℕ, zero, suc, _+_, _≤_, _<_}
-use mathlib.Core.Path.{_≡_, refl, ap, sym, _∙_, subst}
-use mathlib.Core.Bool.{Bool, true, false, _&&_, _||_}
+use mathlib.Core.Path.{_≡_, refl, ap, sym, subst}
+use mathlib.Core.Bool.{Bool, true, false, _||_}
 use native.Mathlib.Numerals.{add-one}
 use native.Mathlib.Omega.{arith}
 use lib.Dec.{eqb}
 use borrow.Author.Tests.{eqb-true, eqb-false}
 use Rattle.counting.specs.Choose.{one}
 use Rattle.counting.specs.Count.{tally, everyBelow, someBelow}
-use Rattle.counting.proofs.Tests.{clash, and-true, or-false, one-le, one-true}
+use Rattle.counting.proofs.Tests.{clash, and-true, or-false}
 
 -- what holds at n and below n holds below suc n
 pub below-suc : (P : ℕ → Type 0) (n k : ℕ) → k < suc n → P n → (k < n → P k) → P k

@@ -1,11 +1,11 @@
 -- The name of the three cards of the board.
 -- Assumes nothing.
 use Prim.Native.Nat.{ℕ}
-use mathlib.Core.Bool.{Bool, _&&_}
+use mathlib.Core.Bool.{_&&_}
 use mathlib.Core.List.{List}
 use lib.Dec.{eqb}
 use Rattle.counting.specs.Choose.{if_then_else_}
-use Rattle.hands.specs.Hand.{ofRank, ofSuit, kinds, ofAKind, flush, run, straight, handRefusal}
+use Rattle.hands.specs.Hand.{ofRank, ofSuit, ofAKind, flush, run, straight, handRefusal}
 use Rattle.names.specs.Answer.{answer}
 use Rattle.names.specs.declared.BoardName.{BoardName}
 use Rattle.names.specs.declared.BoardName.the-variants.{Royal, StraightFlush, ThreeOfAKind, Straight, Flush, Pair, Other}

@@ -1,7 +1,7 @@
 -- The name of five cards.
 -- Assumes nothing.
 use Prim.Native.Nat.{ℕ}
-use mathlib.Core.Bool.{Bool, _&&_}
+use mathlib.Core.Bool.{_&&_}
 use mathlib.Core.List.{List}
 use lib.Dec.{eqb}
 use Rattle.counting.specs.Choose.{if_then_else_}

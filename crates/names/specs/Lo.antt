@@ -5,7 +5,7 @@ use mathlib.Core.Bool.{Bool, not, _&&_}
 use mathlib.Core.List.{List}
 use lib.Dec.{eqb}
 use Rattle.counting.specs.Choose.{if_then_else_}
-use Rattle.hands.specs.Hand.{ofRank, ofSuit, kinds, ofAKind, flush, straight, highest, handRefusal}
+use Rattle.hands.specs.Hand.{ofRank, ofSuit, ofAKind, flush, straight, highest, handRefusal}
 use Rattle.names.specs.Answer.{answer}
 use Rattle.names.specs.declared.LoName.{LoName}
 use Rattle.names.specs.declared.LoName.the-variants.{High, Nothing}

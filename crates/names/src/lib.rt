@@ -82,7 +82,14 @@ fn upper_five(
     suited: bool,
     lower: FiveName,
 ) -> FiveName
-    ensures { λ r. ⌜ r ≡ (if royal then FiveName.RoyalFlush else if run then FiveName.StraightFlush else if four then FiveName.FourOfAKind else if full then FiveName.FullHouse else if suited then FiveName.Flush else lower) ⌝ }
+    ensures { λ r. ⌜
+        r ≡ (if royal then FiveName.RoyalFlush
+        else if run then FiveName.StraightFlush
+        else if four then FiveName.FourOfAKind
+        else if full then FiveName.FullHouse
+        else if suited then FiveName.Flush
+        else lower)
+        ⌝ }
 {
     if royal {
         return FiveName::RoyalFlush;
@@ -103,7 +110,14 @@ fn upper_five(
 }
 
 fn lower_five(row: bool, three: bool, two_pair: bool, jacks: bool, sixes: bool) -> FiveName
-    ensures { λ r. ⌜ r ≡ (if row then FiveName.Straight else if three then FiveName.ThreeOfAKind else if «two_pair» then FiveName.TwoPair else if jacks then FiveName.JacksToAces else if sixes then FiveName.SixesToTens else FiveName.Other) ⌝ }
+    ensures { λ r. ⌜
+        r ≡ (if row then FiveName.Straight
+        else if three then FiveName.ThreeOfAKind
+        else if «two_pair» then FiveName.TwoPair
+        else if jacks then FiveName.JacksToAces
+        else if sixes then FiveName.SixesToTens
+        else FiveName.Other)
+        ⌝ }
 {
     if row {
         return FiveName::Straight;
@@ -154,7 +168,13 @@ pub fn name_five(cards: &[u8]) -> FiveAnswer
 }
 
 fn upper_board(royal: bool, run: bool, three: bool, row: bool, lower: BoardName) -> BoardName
-    ensures { λ r. ⌜ r ≡ (if royal then BoardName.Royal else if run then BoardName.StraightFlush else if three then BoardName.ThreeOfAKind else if row then BoardName.Straight else lower) ⌝ }
+    ensures { λ r. ⌜
+        r ≡ (if royal then BoardName.Royal
+        else if run then BoardName.StraightFlush
+        else if three then BoardName.ThreeOfAKind
+        else if row then BoardName.Straight
+        else lower)
+        ⌝ }
 {
     if royal {
         return BoardName::Royal;
@@ -172,7 +192,11 @@ fn upper_board(royal: bool, run: bool, three: bool, row: bool, lower: BoardName)
 }
 
 fn lower_board(suited: bool, pair: bool) -> BoardName
-    ensures { λ r. ⌜ r ≡ (if suited then BoardName.Flush else if pair then BoardName.Pair else BoardName.Other) ⌝ }
+    ensures { λ r. ⌜
+        r ≡ (if suited then BoardName.Flush
+        else if pair then BoardName.Pair
+        else BoardName.Other)
+        ⌝ }
 {
     if suited {
         return BoardName::Flush;
@@ -216,7 +240,13 @@ fn is_ace_face(cards: &[u8]) -> bool
 }
 
 fn first_pocket(aces: bool, suited: bool, face: bool, pair: bool) -> PocketName
-    ensures { λ r. ⌜ r ≡ (if aces then PocketName.Aces else if suited then PocketName.AceFaceSuited else if face then PocketName.AceFace else if pair then PocketName.OtherPair else PocketName.Nothing) ⌝ }
+    ensures { λ r. ⌜
+        r ≡ (if aces then PocketName.Aces
+        else if suited then PocketName.AceFaceSuited
+        else if face then PocketName.AceFace
+        else if pair then PocketName.OtherPair
+        else PocketName.Nothing)
+        ⌝ }
 {
     if aces {
         return PocketName::Aces;

@@ -2,7 +2,7 @@
 -- Assumes nothing.
 use Prim.Native.Nat.{ℕ, zero, suc, _-_, _≤_, _<_}
 use mathlib.Core.Path.{_≡_, refl, sym, ap, _∙_}
-use mathlib.Core.Bool.{Bool, true, false}
+use mathlib.Core.Bool.{Bool, true}
 use mathlib.Core.List.{List, [], _∷_, map}
 use native.Mathlib.Omega.{arith}
 use lib.Dec.{eqb}
@@ -12,7 +12,8 @@ use Rattle.counting.specs.Count.{everyBelow}
 use Rattle.counting.proofs.Ranges.{every-at}
 use Rattle.odds.specs.declared.Pay.{Pay}
 use Rattle.odds.specs.declared.Pay.the-variants.{To, ThreeToTwo, Push, Loss, NoTable}
-use Rattle.odds.specs.Pays.{saidBy, payAt}
+use Rattle.odds.specs.Numbers.{saidBy}
+use Rattle.odds.specs.Pays.{payAt}
 
 pub no-table-0 : (n : ℕ) (lines : List (List Pay)) (t line : ℕ) → t < 1 → NoTable ≡ payAt n lines t line
 unfolding payAt

@@ -1,3 +1,4 @@
 pub mod Tables
 pub mod Pays
 pub mod Amounts
+pub mod Numbers

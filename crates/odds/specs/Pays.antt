@@ -3,7 +3,7 @@
 use Prim.Native.Nat.{ℕ, _-_}
 use mathlib.Core.Bool.{Bool, _&&_}
 use mathlib.Core.List.{List, []}
-use lib.Dec.{eqb, leb}
+use lib.Dec.{leb}
 use lib.ListN.{getD}
 use Rattle.counting.specs.Choose.{if_then_else_}
 use Rattle.names.specs.declared.FiveName.{FiveName}
@@ -15,16 +15,8 @@ use Rattle.names.specs.Five.{fivePlace}
 use Rattle.names.specs.Board.{boardPlace}
 use Rattle.names.specs.Pocket.{pocketPlace}
 use Rattle.odds.specs.declared.Pay.{Pay}
-use Rattle.odds.specs.declared.Pay.the-variants.{To, ThreeToTwo, Push, Loss, NoTable}
+use Rattle.odds.specs.declared.Pay.the-variants.{Loss, NoTable}
 use Rattle.odds.specs.Tables.{baseLines, loLines, boardLines, pocketLines}
-
--- What a number of the code's tables says: odds to 1 as printed, and three numbers for what is printed in words or as a fraction.
-unfoldable pub saidBy : ℕ → Pay
-saidBy number =
-    if eqb number 65535 then Loss
-    else if eqb number 65534 then Push
-    else if eqb number 65533 then ThreeToTwo
-    else To number
 
 -- there is a pay table t among n, which are numbered from 1
 abbrev pub isTable : ℕ → ℕ → Bool

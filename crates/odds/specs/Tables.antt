@@ -7,54 +7,46 @@ use Rattle.odds.specs.declared.Pay.the-variants.{To, ThreeToTwo, Push, L
 
 unfoldable pub baseLines : List (List Pay)
 baseLines =
-    -- royal flush, straight flush, four, full house
-    (To 500 ∷ To 500 ∷ To 500 ∷ To 500 ∷ To 500 ∷ [])
-    ∷ (To 100 ∷ To 100 ∷ To 100 ∷ To 100 ∷ To 100 ∷ [])
-    ∷ (To 40 ∷ To 40 ∷ To 40 ∷ To 40 ∷ To 40 ∷ [])
-    ∷ (To 10 ∷ To 10 ∷ To 11 ∷ To 11 ∷ To 10 ∷ [])
-    -- flush, straight, three, two pair
-    ∷ (To 6 ∷ To 6 ∷ To 7 ∷ To 7 ∷ To 8 ∷ [])
-    ∷ (To 4 ∷ To 4 ∷ To 4 ∷ To 5 ∷ To 4 ∷ [])
-    ∷ (To 3 ∷ To 3 ∷ To 3 ∷ To 3 ∷ To 3 ∷ [])
-    ∷ (ThreeToTwo ∷ To 2 ∷ ThreeToTwo ∷ ThreeToTwo ∷ ThreeToTwo ∷ [])
-    -- jacks to aces, sixes to tens, other
-    ∷ (To 1 ∷ To 1 ∷ To 1 ∷ To 1 ∷ To 1 ∷ [])
-    ∷ (Push ∷ Push ∷ Push ∷ Push ∷ Push ∷ [])
-    ∷ (Loss ∷ Loss ∷ Loss ∷ Loss ∷ Loss ∷ [])
+    (To 500 ∷ To 500 ∷ To 500 ∷ To 500 ∷ To 500 ∷ [])  -- royal flush
+    ∷ (To 100 ∷ To 100 ∷ To 100 ∷ To 100 ∷ To 100 ∷ [])  -- straight flush
+    ∷ (To 40 ∷ To 40 ∷ To 40 ∷ To 40 ∷ To 40 ∷ [])  -- four
+    ∷ (To 10 ∷ To 10 ∷ To 11 ∷ To 11 ∷ To 10 ∷ [])  -- full house
+    ∷ (To 6 ∷ To 6 ∷ To 7 ∷ To 7 ∷ To 8 ∷ [])  -- flush
+    ∷ (To 4 ∷ To 4 ∷ To 4 ∷ To 5 ∷ To 4 ∷ [])  -- straight
+    ∷ (To 3 ∷ To 3 ∷ To 3 ∷ To 3 ∷ To 3 ∷ [])  -- three
+    ∷ (ThreeToTwo ∷ To 2 ∷ ThreeToTwo ∷ ThreeToTwo ∷ ThreeToTwo ∷ [])  -- two pair
+    ∷ (To 1 ∷ To 1 ∷ To 1 ∷ To 1 ∷ To 1 ∷ [])  -- jacks to aces
+    ∷ (Push ∷ Push ∷ Push ∷ Push ∷ Push ∷ [])  -- sixes to tens
+    ∷ (Loss ∷ Loss ∷ Loss ∷ Loss ∷ Loss ∷ [])  -- other
     ∷ []
 
 unfoldable pub loLines : List (List Pay)
 loLines =
-    -- 7, 8, 9 and 10 high
-    (To 100 ∷ To 100 ∷ [])
-    ∷ (To 50 ∷ To 50 ∷ [])
-    ∷ (To 15 ∷ To 10 ∷ [])
-    ∷ (To 5 ∷ To 5 ∷ [])
-    -- jack high, queen high, other
-    ∷ (To 1 ∷ To 1 ∷ [])
-    ∷ (Loss ∷ Push ∷ [])
-    ∷ (Loss ∷ Loss ∷ [])
+    (To 100 ∷ To 100 ∷ [])  -- 7 high
+    ∷ (To 50 ∷ To 50 ∷ [])  -- 8 high
+    ∷ (To 15 ∷ To 10 ∷ [])  -- 9 high
+    ∷ (To 5 ∷ To 5 ∷ [])  -- 10 high
+    ∷ (To 1 ∷ To 1 ∷ [])  -- jack high
+    ∷ (Loss ∷ Push ∷ [])  -- queen high
+    ∷ (Loss ∷ Loss ∷ [])  -- other
     ∷ []
 
 unfoldable pub boardLines : List (List Pay)
 boardLines =
-    -- royal, straight flush, three of a kind
-    (To 50 ∷ To 50 ∷ To 40 ∷ To 50 ∷ [])
-    ∷ (To 40 ∷ To 40 ∷ To 40 ∷ To 40 ∷ [])
-    ∷ (To 30 ∷ To 30 ∷ To 30 ∷ To 30 ∷ [])
-    -- straight, flush, pair, other
-    ∷ (To 6 ∷ To 5 ∷ To 5 ∷ To 6 ∷ [])
-    ∷ (To 3 ∷ To 4 ∷ To 4 ∷ To 4 ∷ [])
-    ∷ (To 1 ∷ To 1 ∷ To 1 ∷ To 1 ∷ [])
-    ∷ (Loss ∷ Loss ∷ Loss ∷ Loss ∷ [])
+    (To 50 ∷ To 50 ∷ To 40 ∷ To 50 ∷ [])  -- royal
+    ∷ (To 40 ∷ To 40 ∷ To 40 ∷ To 40 ∷ [])  -- straight flush
+    ∷ (To 30 ∷ To 30 ∷ To 30 ∷ To 30 ∷ [])  -- three of a kind
+    ∷ (To 6 ∷ To 5 ∷ To 5 ∷ To 6 ∷ [])  -- straight
+    ∷ (To 3 ∷ To 4 ∷ To 4 ∷ To 4 ∷ [])  -- flush
+    ∷ (To 1 ∷ To 1 ∷ To 1 ∷ To 1 ∷ [])  -- pair
+    ∷ (Loss ∷ Loss ∷ Loss ∷ Loss ∷ [])  -- other
     ∷ []
 
 unfoldable pub pocketLines : List (List Pay)
 pocketLines =
-    -- pair of aces, ace with a face card suited, the same unsuited, other pair, nothing
-    (To 25 ∷ To 30 ∷ To 30 ∷ [])
-    ∷ (To 20 ∷ To 20 ∷ To 20 ∷ [])
-    ∷ (To 10 ∷ To 10 ∷ To 10 ∷ [])
-    ∷ (To 5 ∷ To 5 ∷ To 4 ∷ [])
-    ∷ (Loss ∷ Loss ∷ Loss ∷ [])
+    (To 25 ∷ To 30 ∷ To 30 ∷ [])  -- pair of aces
+    ∷ (To 20 ∷ To 20 ∷ To 20 ∷ [])  -- ace with K, Q or J suited
+    ∷ (To 10 ∷ To 10 ∷ To 10 ∷ [])  -- the same unsuited
+    ∷ (To 5 ∷ To 5 ∷ To 4 ∷ [])  -- other pair
+    ∷ (Loss ∷ Loss ∷ Loss ∷ [])  -- nothing
     ∷ []

@@ -14,7 +14,8 @@ ghost use Rattle.counting.specs.Choose.{if_then_else_};
 ghost use Rattle.names.specs.Five.{fivePlace};
 ghost use Rattle.names.specs.Board.{boardPlace};
 ghost use Rattle.names.specs.Pocket.{pocketPlace};
-ghost use Rattle.odds.specs.Pays.{saidBy, loPlace, basePay, loPay, boardPay, pocketPay};
+ghost use Rattle.odds.specs.Pays.{loPlace, basePay, loPay, boardPay, pocketPay};
+ghost use Rattle.odds.specs.Numbers.{saidBy};
 ghost use Rattle.odds.specs.Amounts.{handedBack, aboveFifty};
 use names::BoardName;
 use names::FiveName;
@@ -41,53 +42,45 @@ const PUSH: u16 = 65534;
 const LOSS: u16 = 65535;
 
 const BASE: [[u16; 5]; 11] = [
-    // Royal flush, straight flush, four, full house.
-    [500, 500, 500, 500, 500],
-    [100, 100, 100, 100, 100],
-    [40, 40, 40, 40, 40],
-    [10, 10, 11, 11, 10],
-    // Flush, straight, three, two pair.
-    [6, 6, 7, 7, 8],
-    [4, 4, 4, 5, 4],
-    [3, 3, 3, 3, 3],
-    [THREE_TO_TWO, 2, THREE_TO_TWO, THREE_TO_TWO, THREE_TO_TWO],
-    // Jacks to aces, sixes to tens, other.
-    [1, 1, 1, 1, 1],
-    [PUSH, PUSH, PUSH, PUSH, PUSH],
-    [LOSS, LOSS, LOSS, LOSS, LOSS],
+    [500, 500, 500, 500, 500], // royal flush
+    [100, 100, 100, 100, 100], // straight flush
+    [40, 40, 40, 40, 40], // four
+    [10, 10, 11, 11, 10], // full house
+    [6, 6, 7, 7, 8], // flush
+    [4, 4, 4, 5, 4], // straight
+    [3, 3, 3, 3, 3], // three
+    [THREE_TO_TWO, 2, THREE_TO_TWO, THREE_TO_TWO, THREE_TO_TWO], // two pair
+    [1, 1, 1, 1, 1], // jacks to aces
+    [PUSH, PUSH, PUSH, PUSH, PUSH], // sixes to tens
+    [LOSS, LOSS, LOSS, LOSS, LOSS], // other
 ];
 
 const LO: [[u16; 2]; 7] = [
-    // 7, 8, 9 and 10 high.
-    [100, 100],
-    [50, 50],
-    [15, 10],
-    [5, 5],
-    // Jack high, queen high, other.
-    [1, 1],
-    [LOSS, PUSH],
-    [LOSS, LOSS],
+    [100, 100], // 7 high
+    [50, 50], // 8 high
+    [15, 10], // 9 high
+    [5, 5], // 10 high
+    [1, 1], // jack high
+    [LOSS, PUSH], // queen high
+    [LOSS, LOSS], // other
 ];
 
 const BOARD: [[u16; 4]; 7] = [
-    // Royal, straight flush, three of a kind.
-    [50, 50, 40, 50],
-    [40, 40, 40, 40],
-    [30, 30, 30, 30],
-    // Straight, flush, pair, other.
-    [6, 5, 5, 6],
-    [3, 4, 4, 4],
-    [1, 1, 1, 1],
-    [LOSS, LOSS, LOSS, LOSS],
+    [50, 50, 40, 50], // royal
+    [40, 40, 40, 40], // straight flush
+    [30, 30, 30, 30], // three of a kind
+    [6, 5, 5, 6], // straight
+    [3, 4, 4, 4], // flush
+    [1, 1, 1, 1], // pair
+    [LOSS, LOSS, LOSS, LOSS], // other
 ];
 
 const POCKET: [[u16; 3]; 5] = [
-    // Pair of aces, ace with a face card suited, the same unsuited, other pair, nothing.
-    [25, 30, 30],
-    [20, 20, 20],
-    [10, 10, 10],
-    [5, 5, 4],
-    [LOSS, LOSS, LOSS],
+    [25, 30, 30], // pair of aces
+    [20, 20, 20], // ace with K, Q or J suited
+    [10, 10, 10], // the same unsuited
+    [5, 5, 4], // other pair
+    [LOSS, LOSS, LOSS], // nothing
 ];
 
 // What a number of a table says.

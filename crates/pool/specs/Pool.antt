@@ -1,7 +1,7 @@
 -- The round maximum: how a pool of wins is shared. Wins, shares and the maximum are whole dollars.
 -- Assumes nothing.
 use Prim.Native.Nat.{ℕ, _*_, _/_}
-use mathlib.Core.Bool.{Bool, true, false, not, _||_}
+use mathlib.Core.Bool.{Bool, not, _||_}
 use mathlib.Core.List.{List, map}
 use lib.Dec.{eqb, leb, ltb}
 use lib.ListN.{length}

@@ -1,8 +1,6 @@
-use mathlib.Core.Path.{_≡_}
 use Prim.Native.Nat.{_-_}
 use native.Mathlib.Omega.{arith}
 use borrow.Author.Tests.{eq-eqb, ne-eqb}
-use borrow.Author.Needs.{needs}
 use Rattle.hands.specs.Hand.{rankOn}
 use Rattle.hands.proofs.rank_on.Statement.{statement}
 use Rattle.hands.proofs.rank_on.Tie as tie

@@ -4,7 +4,8 @@ use native.Mathlib.Omega.{arith}
 use borrow.Author.Needs.{needs}
 use Rattle.counting.specs.Count.{everyBelow}
 use Rattle.odds.specs.Tables.{boardLines}
-use Rattle.odds.specs.Pays.{saidBy, payAt, boardPay}
+use Rattle.odds.specs.Numbers.{saidBy}
+use Rattle.odds.specs.Pays.{payAt, boardPay}
 use Rattle.odds.proofs.Places.{board-below}
 use Rattle.odds.proofs.Lines.{no-table-0, no-table-above, at-table}
 use Rattle.odds.proofs.board_pay.Statement.{statement}

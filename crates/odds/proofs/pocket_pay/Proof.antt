@@ -4,7 +4,8 @@ use native.Mathlib.Omega.{arith}
 use borrow.Author.Needs.{needs}
 use Rattle.counting.specs.Count.{everyBelow}
 use Rattle.odds.specs.Tables.{pocketLines}
-use Rattle.odds.specs.Pays.{saidBy, payAt, pocketPay}
+use Rattle.odds.specs.Numbers.{saidBy}
+use Rattle.odds.specs.Pays.{payAt, pocketPay}
 use Rattle.odds.proofs.Places.{pocket-below}
 use Rattle.odds.proofs.Lines.{no-table-0, no-table-above, at-table}
 use Rattle.odds.proofs.pocket_pay.Statement.{statement}

@@ -1,6 +1,5 @@
 use borrow.Author.Tests.{eq-eqb, ne-eqb}
-use borrow.Author.Needs.{needs}
-use Rattle.odds.specs.Pays.{saidBy}
+use Rattle.odds.specs.Numbers.{saidBy}
 use Rattle.odds.proofs.said.Statement.{statement}
 use Rattle.odds.proofs.said.Tie as tie
 

@@ -6,9 +6,9 @@ use native.Mathlib.Omega.{arith}
 use lib.ListN.{length, drop, take, length-set}
 use borrow.Author.Needs.{needs}
 use borrow.Author.Tests.{leb-true}
+use Rattle.counting.proofs.Fills.{fill-step, fill-end}
 use Rattle.counting.proofs.Lists.{everyOf-at}
 use Rattle.pool.specs.Pool.{winsFit, shareOf}
-use Rattle.pool.proofs.Laws.{fill-step, fill-end}
 use Rattle.pool.proofs.fill.Statement.{statement}
 use Rattle.pool.proofs.fill.Tie as tie
 

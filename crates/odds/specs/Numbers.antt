@@ -1,0 +1,14 @@
+-- How the code writes a table: odds to 1 as printed, and three numbers for what is printed in words or as a fraction.
+-- Assumes nothing.
+use Prim.Native.Nat.{ℕ}
+use lib.Dec.{eqb}
+use Rattle.counting.specs.Choose.{if_then_else_}
+use Rattle.odds.specs.declared.Pay.{Pay}
+use Rattle.odds.specs.declared.Pay.the-variants.{To, ThreeToTwo, Push, Loss}
+
+unfoldable pub saidBy : ℕ → Pay
+saidBy number =
+    if eqb number 65535 then Loss
+    else if eqb number 65534 then Push
+    else if eqb number 65533 then ThreeToTwo
+    else To number
