@@ -10,13 +10,13 @@ use Rattle.names.specs.Board.{boardBy, nameBoard, answerBoard}
 use Rattle.names.specs.Pocket.{aceFace, pocketBy, namePocket, answerPocket}
 use Rattle.names.specs.Lo.{isLo, loBy, nameLo, answerLo}
 use Rattle.odds.specs.Tables.{baseLines, loLines, pocketLines}
-use Rattle.odds.specs.Pays.{payAt, basePay, pocketPay, loPay}
+use Rattle.odds.specs.Pays.{payIn, basePay, pocketPay, loPay}
 use Rattle.pool.specs.Pool.{shareOf, sharesOf, winsFit, shareRefusal, shareList}
 use Rattle.cases.specs.Cases.{AllRight, cases}
 use Rattle.cases.specs.Cases.AllRight.{done, _and_}
 
 pub all-right : AllRight cases
-unfolding tally everyBelow someBelow count everyOf total repeatedAt repeats faulty ofRank ofSuit kinds flush rankOn run straight highest handRefusal answer fiveBy nameFive answerFive boardBy nameBoard answerBoard aceFace pocketBy namePocket answerPocket isLo loBy nameLo answerLo baseLines loLines pocketLines payAt basePay pocketPay loPay shareOf sharesOf winsFit shareRefusal shareList
+unfolding tally everyBelow someBelow count everyOf total repeatedAt repeats faulty ofRank ofSuit kinds flush rankOn run straight highest handRefusal answer fiveBy nameFive answerFive boardBy nameBoard answerBoard aceFace pocketBy namePocket answerPocket isLo loBy nameLo answerLo baseLines loLines pocketLines payIn basePay pocketPay loPay shareOf sharesOf winsFit shareRefusal shareList
 all-right =
     refl and refl and refl and refl and refl and refl and refl and refl
     and refl and refl and refl and refl and refl and refl and refl and refl

@@ -1,1 +1,2 @@
 pub mod Highest
+pub mod Refusals

@@ -18,7 +18,7 @@ use Rattle.names.specs.Top.{isTop}
 use Rattle.odds.specs.declared.Pay.{Pay}
 use Rattle.odds.specs.declared.Pay.the-variants.{To, Loss}
 use Rattle.odds.specs.Tables.{baseLines}
-use Rattle.odds.specs.Pays.{payAt, basePay}
+use Rattle.odds.specs.Pays.{payIn, payAt, basePay}
 use Rattle.odds.specs.Amounts.{aboveFifty}
 use Rattle.odds.proofs.Places.{five-below}
 
@@ -30,10 +30,10 @@ same false false e = refl
 
 -- at table t + 1 and a line: above 50 just where the line is one of the first two
 agrees : ℕ → ℕ → Bool
-agrees t line = Bool·beq (aboveFifty (payAt 5 baseLines (t + 1) line)) (ltb line 2)
+agrees t line = Bool·beq (aboveFifty (payAt baseLines (t + 1) line)) (ltb line 2)
 
 all-agree : everyBelow 5 (λ t. everyBelow 11 (agrees t)) ≡ true
-unfolding everyBelow agrees payAt baseLines
+unfolding everyBelow agrees payIn baseLines
 all-agree = refl
 
 -- of a base table there is, the odds are above 50 just for a royal flush and a straight flush
@@ -43,11 +43,11 @@ above-fifty t name a b =
     let e : t - 1 + 1 ≡ t = omega arith in
     let row = every-at (λ s. everyBelow 11 (agrees s)) 5 all-agree (t - 1) (omega arith) in
     let test : agrees (t - 1) (fivePlace name) ≡ true = every-at (agrees (t - 1)) 11 row (fivePlace name) (five-below name) in
-    rw e at (same (aboveFifty (payAt 5 baseLines (t - 1 + 1) (fivePlace name))) (isTop name) test)
+    rw e at (same (aboveFifty (payAt baseLines (t - 1 + 1) (fivePlace name))) (isTop name) test)
 
 -- a line of equal odds pays these on every base table
-level : (pay : Pay) (line t : ℕ) → getD baseLines line [] ≡ replicate 5 pay → 1 ≤ t → t ≤ 5 → payAt 5 baseLines t line ≡ pay
-unfolding payAt
+level : (pay : Pay) (line t : ℕ) → getD baseLines line [] ≡ replicate 5 pay → 1 ≤ t → t ≤ 5 → payAt baseLines t line ≡ pay
+unfolding payIn
 level pay line t e a b = simp (le-leb 1 t a, le-leb t 5 b, e) (getD-replicate 5 (t - 1) pay Loss (omega arith))
 
 pub royal-pays : (t : ℕ) → 1 ≤ t → t ≤ 5 → basePay t RoyalFlush ≡ To 500

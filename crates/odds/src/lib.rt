@@ -8,13 +8,14 @@
 // the whole base table.
 ghost use mathlib.Core.Path.{_≡_};
 ghost use mathlib.Core.Bool.{_&&_};
+ghost use mathlib.Core.List.{map};
 ghost use Prim.Native.Nat.{_+_, _*_, _-_};
 ghost use lib.Dec.{leb};
 ghost use Rattle.counting.specs.Choose.{if_then_else_};
 ghost use Rattle.names.specs.Five.{fivePlace};
 ghost use Rattle.names.specs.Board.{boardPlace};
 ghost use Rattle.names.specs.Pocket.{pocketPlace};
-ghost use Rattle.odds.specs.Pays.{loPlace, basePay, loPay, boardPay, pocketPay};
+ghost use Rattle.odds.specs.Pays.{payIn, loPlace, basePay, loPay, boardPay, pocketPay};
 ghost use Rattle.odds.specs.Numbers.{saidBy};
 ghost use Rattle.odds.specs.Amounts.{handedBack, aboveFifty};
 use names::BoardName;
@@ -166,56 +167,46 @@ fn lo_line(rank: u8) -> usize
     (rank - 5) as usize
 }
 
-pub fn base_pay(table: u8, name: FiveName) -> Pay
-    ensures { λ r. ⌜ r ≡ basePay table name ⌝ }
+// What pay table `table`, numbered from 1, says in a line.
+fn pay_in(line: &[u16], table: u8) -> Pay
+    ensures { λ r. ⌜ r ≡ payIn (map saidBy (now (line .entry))) table ⌝ }
 {
     if table < 1 {
         return Pay::NoTable;
     }
-    if 5 < table {
+    let at = table as usize - 1;
+    if line.len() <= at {
         return Pay::NoTable;
     }
+    said(line[at])
+}
+
+pub fn base_pay(table: u8, name: FiveName) -> Pay
+    ensures { λ r. ⌜ r ≡ basePay table name ⌝ }
+{
     let line = BASE[five_place(name)];
-    said(line[table as usize - 1])
+    pay_in(&line, table)
 }
 
 pub fn lo_pay(table: u8, name: LoName) -> Pay
     ensures { λ r. ⌜ r ≡ loPay table name ⌝ }
 {
-    if table < 1 {
-        return Pay::NoTable;
-    }
-    if 2 < table {
-        return Pay::NoTable;
-    }
     let line = LO[lo_place(name)];
-    said(line[table as usize - 1])
+    pay_in(&line, table)
 }
 
 pub fn board_pay(table: u8, name: BoardName) -> Pay
     ensures { λ r. ⌜ r ≡ boardPay table name ⌝ }
 {
-    if table < 1 {
-        return Pay::NoTable;
-    }
-    if 4 < table {
-        return Pay::NoTable;
-    }
     let line = BOARD[board_place(name)];
-    said(line[table as usize - 1])
+    pay_in(&line, table)
 }
 
 pub fn pocket_pay(table: u8, name: PocketName) -> Pay
     ensures { λ r. ⌜ r ≡ pocketPay table name ⌝ }
 {
-    if table < 1 {
-        return Pay::NoTable;
-    }
-    if 3 < table {
-        return Pay::NoTable;
-    }
     let line = POCKET[pocket_place(name)];
-    said(line[table as usize - 1])
+    pay_in(&line, table)
 }
 
 // The cents that a win at odds to 1 hands back.

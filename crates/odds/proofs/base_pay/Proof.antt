@@ -1,65 +1,46 @@
 use Prim.Native.Nat.{_<_}
-use mathlib.Core.Path.{refl, ap, _∙_}
+use mathlib.Core.Path.{refl, _∙_}
 use native.Mathlib.Omega.{arith}
 use borrow.Author.Needs.{needs}
 use Rattle.counting.specs.Count.{everyBelow}
 use Rattle.odds.specs.Tables.{baseLines}
 use Rattle.odds.specs.Numbers.{saidBy}
-use Rattle.odds.specs.Pays.{payAt, basePay}
+use Rattle.odds.specs.Pays.{basePay}
 use Rattle.odds.proofs.Places.{five-below}
-use Rattle.odds.proofs.Lines.{no-table-0, no-table-above, at-table}
+use Rattle.odds.proofs.Lines.{said-at, wide-at}
 use Rattle.odds.proofs.base_pay.Statement.{statement}
 use Rattle.odds.proofs.base_pay.Tie as tie
-
-returns : tie.Need-returns
-unfolding basePay
-returns c = no-table-0 _ _ _ _ (c .if1 .taken)
-
-returns-2 : tie.Need-returns-2
-unfolding basePay
-returns-2 c = no-table-above _ _ _ _ (c .before .if1 .left) (c .if2 .taken)
 
 five-place-requires : tie.Need-five-place-requires
 five-place-requires c κs = search needs
 
 mul-line : tie.Need-mul-line
-mul-line c = omega (arith, five-below (c .before .before .before .args .name))
+mul-line c = omega (arith, five-below (c .before .args .name))
 
 array-copy-out-line : tie.Need-array-copy-out-line
-array-copy-out-line c = omega (arith, five-below (c .before .before .before .args .name))
+array-copy-out-line c = omega (arith, five-below (c .before .args .name))
 
-sub-said : tie.Need-sub-said
-sub-said c = search needs
-
-mul-said : tie.Need-mul-said
-mul-said c = search needs
-
-array-read-said : tie.Need-array-read-said
-array-read-said c = search needs
-
-said-requires : tie.Need-said-requires
-said-requires c κs = search needs
-
-returns-3 : tie.Need-returns-3
-unfolding basePay baseLines saidBy everyBelow
-returns-3 c =
+slice-aggregate-pay-in : tie.Need-slice-aggregate-pay-in
+unfolding baseLines everyBelow
+slice-aggregate-pay-in c =
     let p = c .before .before in
-    let low : p .five-place .result < 11 = omega (arith, five-below (p .before .before .before .args .name)) in
-    c .said .ensures
-    ∙ at-table 11 5 baseLines refl refl _ _ (p .before .before .if1 .left) (p .before .if2 .left) low
-    ∙ ap (payAt 5 baseLines (p .before .before .before .args .table)) (p .five-place .ensures)
+    let low : p .five-place .result < 11 = omega (arith, five-below (p .before .args .name)) in
+    wide-at 11 5 baseLines refl (p .five-place .result) low
+
+pay-in-requires : tie.Need-pay-in-requires
+pay-in-requires c κs = search needs
+
+returns : tie.Need-returns
+unfolding basePay baseLines saidBy
+returns c = c .pay-in .ensures ∙ said-at baseLines refl _ _ _ (c .before .before .before .five-place .ensures)
 
 pub base-pay-spec : {M : Type 1} → statement M
 base-pay-spec =
     tie.close
     (tie.spec
-    returns
-    returns-2
     five-place-requires
     mul-line
     array-copy-out-line
-    sub-said
-    mul-said
-    array-read-said
-    said-requires
-    returns-3)
+    slice-aggregate-pay-in
+    pay-in-requires
+    returns)

@@ -1,65 +1,46 @@
 use Prim.Native.Nat.{_<_}
-use mathlib.Core.Path.{refl, ap, _∙_}
+use mathlib.Core.Path.{refl, _∙_}
 use native.Mathlib.Omega.{arith}
 use borrow.Author.Needs.{needs}
 use Rattle.counting.specs.Count.{everyBelow}
 use Rattle.odds.specs.Tables.{boardLines}
 use Rattle.odds.specs.Numbers.{saidBy}
-use Rattle.odds.specs.Pays.{payAt, boardPay}
+use Rattle.odds.specs.Pays.{boardPay}
 use Rattle.odds.proofs.Places.{board-below}
-use Rattle.odds.proofs.Lines.{no-table-0, no-table-above, at-table}
+use Rattle.odds.proofs.Lines.{said-at, wide-at}
 use Rattle.odds.proofs.board_pay.Statement.{statement}
 use Rattle.odds.proofs.board_pay.Tie as tie
-
-returns : tie.Need-returns
-unfolding boardPay
-returns c = no-table-0 _ _ _ _ (c .if1 .taken)
-
-returns-2 : tie.Need-returns-2
-unfolding boardPay
-returns-2 c = no-table-above _ _ _ _ (c .before .if1 .left) (c .if2 .taken)
 
 board-place-requires : tie.Need-board-place-requires
 board-place-requires c κs = search needs
 
 mul-line : tie.Need-mul-line
-mul-line c = omega (arith, board-below (c .before .before .before .args .name))
+mul-line c = omega (arith, board-below (c .before .args .name))
 
 array-copy-out-line : tie.Need-array-copy-out-line
-array-copy-out-line c = omega (arith, board-below (c .before .before .before .args .name))
+array-copy-out-line c = omega (arith, board-below (c .before .args .name))
 
-sub-said : tie.Need-sub-said
-sub-said c = search needs
-
-mul-said : tie.Need-mul-said
-mul-said c = search needs
-
-array-read-said : tie.Need-array-read-said
-array-read-said c = search needs
-
-said-requires : tie.Need-said-requires
-said-requires c κs = search needs
-
-returns-3 : tie.Need-returns-3
-unfolding boardPay boardLines saidBy everyBelow
-returns-3 c =
+slice-aggregate-pay-in : tie.Need-slice-aggregate-pay-in
+unfolding boardLines everyBelow
+slice-aggregate-pay-in c =
     let p = c .before .before in
-    let low : p .board-place .result < 7 = omega (arith, board-below (p .before .before .before .args .name)) in
-    c .said .ensures
-    ∙ at-table 7 4 boardLines refl refl _ _ (p .before .before .if1 .left) (p .before .if2 .left) low
-    ∙ ap (payAt 4 boardLines (p .before .before .before .args .table)) (p .board-place .ensures)
+    let low : p .board-place .result < 7 = omega (arith, board-below (p .before .args .name)) in
+    wide-at 7 4 boardLines refl (p .board-place .result) low
+
+pay-in-requires : tie.Need-pay-in-requires
+pay-in-requires c κs = search needs
+
+returns : tie.Need-returns
+unfolding boardPay boardLines saidBy
+returns c = c .pay-in .ensures ∙ said-at boardLines refl _ _ _ (c .before .before .before .board-place .ensures)
 
 pub board-pay-spec : {M : Type 1} → statement M
 board-pay-spec =
     tie.close
     (tie.spec
-    returns
-    returns-2
     board-place-requires
     mul-line
     array-copy-out-line
-    sub-said
-    mul-said
-    array-read-said
-    said-requires
-    returns-3)
+    slice-aggregate-pay-in
+    pay-in-requires
+    returns)
