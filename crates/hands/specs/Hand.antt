@@ -23,7 +23,7 @@ ofSuit cs s = count (λ c. eqb (suit c) s) cs
 unfoldable pub kinds : ℕ → ℕ → ℕ → (ℕ → ℕ) → ℕ
 kinds k lo n h = tally n (λ i. eqb (h (lo + i)) k)
 
--- of all thirteen ranks
+-- how many of the thirteen ranks occur exactly k times
 abbrev pub ofAKind : ℕ → (ℕ → ℕ) → ℕ
 ofAKind k h = kinds k two 13 h
 
@@ -31,12 +31,12 @@ ofAKind k h = kinds k two 13 h
 unfoldable pub flush : ℕ → (ℕ → ℕ) → Bool
 flush n t = someBelow 4 (λ s. eqb (t s) n)
 
--- An ace ends a straight at either end and never stands inside one: straights lie on the line A 2 3 4 .. 10 J Q K A, numbered 1 to
--- 14. The rank at a number of the line
+-- An ace ends a straight at either end and never stands inside one: straights lie on the line A 2 3 .. 10 J Q K A, numbered 1 to 14.
+-- The rank at number p of the line:
 unfoldable pub rankOn : ℕ → ℕ
 rankOn p = if eqb p 1 then ace else p - 2
 
--- n cards are the run from number p on: each of its n ranks occurs
+-- n cards are the run from number p of the line on: each of its n ranks occurs
 unfoldable pub run : ℕ → ℕ → (ℕ → ℕ) → Bool
 run n p h = everyBelow n (λ i. leb 1 (h (rankOn (p + i))))
 

@@ -12,7 +12,8 @@ use Rattle.names.specs.declared.BoardName.the-variants.{Royal, StraightF
 use Rattle.names.specs.declared.BoardAnswer.{BoardAnswer}
 use Rattle.names.specs.declared.BoardAnswer.the-variants.{Name, Refused}
 
--- Board, three cards: royal (Q-K-A suited), straight flush, three of a kind, straight, flush, pair, other
+-- Board, three cards: royal (Q-K-A suited), straight flush, three of a kind, straight, flush, pair, other. (The run of three from 12 is
+-- Q-K-A.)
 unfoldable pub boardBy : (ℕ → ℕ) → (ℕ → ℕ) → BoardName
 boardBy h t =
     if flush 3 t && run 3 12 h then Royal

@@ -13,7 +13,8 @@ use Rattle.names.specs.declared.FiveName.the-variants.{RoyalFlush, Strai
 use Rattle.names.specs.declared.FiveAnswer.{FiveAnswer}
 use Rattle.names.specs.declared.FiveAnswer.the-variants.{Name, Refused}
 
--- Five cards, highest name only
+-- Five cards, highest name only. (h: how often each rank occurs; t: how often each suit; the run of five from 10 is 10-J-Q-K-A; the
+-- four ranks from the jack on are J, Q, K and A, and the five from the six on are six to ten.)
 unfoldable pub fiveBy : (ℕ → ℕ) → (ℕ → ℕ) → FiveName
 fiveBy h t =
     if flush 5 t && run 5 10 h then RoyalFlush
