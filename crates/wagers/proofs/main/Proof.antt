@@ -1,7 +1,7 @@
 use Prim.Native.Nat.{_≤_, _-_}
 use borrow.Author.Needs.{needs}
-use Rattle.judge.proofs.judge_wagers.Statement.{statement}
-use Rattle.judge.proofs.judge_wagers.Tie as tie
+use Rattle.wagers.proofs.main.Statement.{statement}
+use Rattle.wagers.proofs.main.Tie as tie
 
 abbrev Inv-loop : tie.InvT-loop
 Inv-loop i₀ i = i ≤ 22
@@ -12,14 +12,14 @@ abbrev μ-loop : tie.MeasureT-loop
 loop-holds : tie.Need-loop-holds Inv-loop μ-loop
 loop-holds c = search needs
 
-mul-judge-wager : tie.Need-mul-judge-wager Inv-loop μ-loop
-mul-judge-wager c = search needs
+mul-print-wager : tie.Need-mul-print-wager Inv-loop μ-loop
+mul-print-wager c = search needs
 
-array-copy-out-judge-wager : tie.Need-array-copy-out-judge-wager Inv-loop μ-loop
-array-copy-out-judge-wager c = search needs
+array-copy-out-print-wager : tie.Need-array-copy-out-print-wager Inv-loop μ-loop
+array-copy-out-print-wager c = search needs
 
-judge-wager-requires : tie.Need-judge-wager-requires Inv-loop μ-loop
-judge-wager-requires c κs = search needs
+print-wager-requires : tie.Need-print-wager-requires Inv-loop μ-loop
+print-wager-requires c κs = search needs
 
 add-i : tie.Need-add-i Inv-loop μ-loop
 add-i c = search needs
@@ -33,16 +33,16 @@ loop-again c = search needs
 returns : tie.Need-returns Inv-loop μ-loop
 returns c = search needs
 
-pub judge-wagers-spec : {M : Type 1} → statement M
-judge-wagers-spec =
+pub main-spec : {M : Type 1} → statement M
+main-spec =
     tie.close
     (tie.spec
     Inv-loop
     μ-loop
     loop-holds
-    mul-judge-wager
-    array-copy-out-judge-wager
-    judge-wager-requires
+    mul-print-wager
+    array-copy-out-print-wager
+    print-wager-requires
     add-i
     loop-less
     loop-again

@@ -1,0 +1,138 @@
+// What pay tables hand back for cards, and which odds are above 50, asked of the public entries.
+//
+// The file stdout beside src/ has what this must print. It was worked out by hand from the rule sheet and not by this code:
+// docs/COUNTS.md has the working. Every function here is proved safe and ending; what the program prints is tested and
+// not proved.
+ghost use Prim.Native.Nat.{_≤_};
+use libc::STDOUT_FILENO;
+use names::BoardAnswer;
+use names::FiveAnswer;
+use names::LoAnswer;
+use names::PocketAnswer;
+use odds::Pay;
+
+// The entries.
+const FIVE: u8 = 0;
+
+const LO: u8 = 1;
+
+const BOARD: u8 = 2;
+
+const POCKET: u8 = 3;
+
+// The entry, the number of the pay table, the dollars, the cards.
+const WAGERS: [[u8; 8]; 22] = [
+    [FIVE, 1, 100, 12, 13, 22, 31, 44], // pair of fives
+    [FIVE, 1, 100, 16, 17, 26, 39, 48], // pair of sixes
+    [FIVE, 5, 100, 32, 33, 2, 11, 40], // pair of tens
+    [FIVE, 3, 100, 36, 37, 6, 23, 32], // pair of jacks
+    [FIVE, 1, 1, 8, 9, 30, 31, 44], // two pair
+    [FIVE, 2, 1, 8, 9, 30, 31, 44], // two pair
+    [FIVE, 4, 100, 32, 36, 40, 44, 48], // royal flush
+    [FIVE, 0, 100, 32, 36, 40, 44, 48], // no such table
+    [FIVE, 6, 100, 32, 36, 40, 44, 48], // no such table
+    [LO, 1, 10, 0, 5, 10, 15, 16], // 2-3-4-5-6 mixed
+    [LO, 1, 10, 48, 1, 6, 11, 16], // A-2-3-4-6 mixed
+    [LO, 1, 10, 0, 5, 10, 15, 20], // 2-3-4-5-7 mixed
+    [LO, 1, 10, 0, 5, 10, 19, 28], // 9 high
+    [LO, 2, 10, 0, 5, 10, 19, 28], // 9 high
+    [LO, 1, 10, 0, 9, 22, 31, 40], // queen high
+    [LO, 2, 10, 0, 9, 22, 31, 40], // queen high
+    [BOARD, 1, 5, 40, 44, 48, 0, 0], // Q-K-A suited, at exactly 50
+    [BOARD, 3, 5, 40, 44, 48, 0, 0], // Q-K-A suited
+    [BOARD, 2, 5, 44, 48, 0, 0, 0], // K-A-2 suited
+    [BOARD, 2, 5, 48, 1, 6, 0, 0], // A-2-3 mixed
+    [POCKET, 3, 5, 0, 1, 0, 0, 0], // pair of twos
+    [POCKET, 1, 5, 48, 32, 0, 0, 0], // A-10 suited
+];
+
+// What a pay table says of cards; of refused cards it says nothing.
+fn base_of(table: u8, cards: &[u8]) -> Pay {
+    match names::name_five(cards) {
+        FiveAnswer::Name(name) => odds::base_pay(table, name),
+        FiveAnswer::Refused(_) => Pay::NoTable,
+    }
+}
+
+fn lo_of(table: u8, cards: &[u8]) -> Pay {
+    match names::name_lo(cards) {
+        LoAnswer::Name(name) => odds::lo_pay(table, name),
+        LoAnswer::Refused(_) => Pay::NoTable,
+    }
+}
+
+fn board_of(table: u8, cards: &[u8]) -> Pay {
+    match names::name_board(cards) {
+        BoardAnswer::Name(name) => odds::board_pay(table, name),
+        BoardAnswer::Refused(_) => Pay::NoTable,
+    }
+}
+
+fn pocket_of(table: u8, cards: &[u8]) -> Pay {
+    match names::name_pocket(cards) {
+        PocketAnswer::Name(name) => odds::pocket_pay(table, name),
+        PocketAnswer::Refused(_) => Pay::NoTable,
+    }
+}
+
+fn pay_of(entry: u8, table: u8, cards: &[u8]) -> Pay {
+    match entry {
+        0 => base_of(table, cards),
+        1 => lo_of(table, cards),
+        2 => board_of(table, cards),
+        _ => pocket_of(table, cards),
+    }
+}
+
+// How many cards a wager goes by.
+fn cards_of(entry: u8) -> usize
+    ensures { λ r. ⌜ r ≤ 5 ⌝ }
+{
+    match entry {
+        2 => 3,
+        3 => 2,
+        _ => 5,
+    }
+}
+
+fn write(text: &[u8]) {
+    io::write_all(STDOUT_FILENO, text);
+}
+
+fn print_entry(entry: u8) {
+    match entry {
+        0 => write(b"base"),
+        1 => write(b"Lo Ball"),
+        2 => write(b"Board"),
+        _ => write(b"Pocket"),
+    }
+}
+
+fn print_next(number: u64) {
+    write(b" ");
+    io::print_decimal(STDOUT_FILENO, number);
+}
+
+// The cents handed back, and whether the odds are above 50.
+fn print_pay(pay: Pay, dollars: u8) {
+    print_next(odds::handed_back(pay, dollars as u32));
+    if odds::is_above_fifty(pay) {
+        write(b" above 50");
+    }
+    write(b"\n");
+}
+
+// The wager, its table and the dollars; then the answer.
+fn print_wager(row: [u8; 8]) {
+    let end = 3 + cards_of(row[0]);
+    print_entry(row[0]);
+    print_next(row[1] as u64);
+    print_next(row[2] as u64);
+    print_pay(pay_of(row[0], row[1], &row[3..end]), row[2]);
+}
+
+fn main() {
+    for i in 0..22 {
+        print_wager(WAGERS[i]);
+    }
+}
