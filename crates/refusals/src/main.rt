@@ -1,5 +1,6 @@
-// Which cards are refused, and with which number: none to six cards, sound ones and equal ones, and sound cards with one of
-// them changed at each place, asked of the public entries.
+// Which cards are refused, and with which number, asked of the public entries.
+//
+// Asked are none to six cards, sound ones and equal ones, and sound cards with one of them changed at each place.
 //
 // The file stdout beside src/ has what this must print. It was worked out by hand from the rule sheet and not by this code:
 // docs/COUNTS.md has the working. Every function here is proved safe and ending; what the program prints is tested and
