@@ -1,10 +1,10 @@
 -- Tests taken apart.
 -- Assumes nothing.
-use Prim.Native.Nat.{ℕ, _≤_}
+use Prim.Native.Nat.{ℕ, _≤_, _<_}
 use mathlib.Core.Path.{_≡_, refl}
 use mathlib.Core.Bool.{Bool, true, false, _&&_, _||_}
 use native.Mathlib.Omega.{arith}
-use Rattle.counting.specs.Choose.{one}
+use Rattle.counting.specs.Choose.{if_then_else_, one}
 
 -- no test holds and fails
 pub clash : {A : Type 0} (b : Bool) → b ≡ true → b ≡ false → A
@@ -32,3 +32,10 @@ one-le false = omega arith
 pub one-true : (b : Bool) → one b ≡ 1 → b ≡ true
 one-true true e = refl
 one-true false e = absurd (omega arith)
+
+-- the number that two tests choose is 0 only where both fail
+pub neither : (a b : ℕ) (first second : Bool) → 0 < a → 0 < b → _≡_ {A = ℕ} (if first then a else if second then b else 0) 0
+    → (first ≡ false) × (second ≡ false)
+neither a b true second p q e = absurd (omega arith)
+neither a b false true p q e = absurd (omega arith)
+neither a b false false p q e = (refl, refl)

@@ -11,7 +11,7 @@ use lib.ListN.{length, getD, length-map, List·getD-map}
 use borrow.Author.Tests.{le-leb, lt-leb, leb-true, leb-false, le-ltb, ltb-false, eq-eqb, ne-eqb, eqb-true, not-false}
 use Rattle.counting.specs.Choose.{if_then_else_}
 use Rattle.counting.specs.Count.{total}
-use Rattle.counting.proofs.Tests.{or-false}
+use Rattle.counting.proofs.Tests.{or-false, neither}
 use Rattle.pool.specs.declared.Shared.the-variants.{Full, Cut, Refused}
 use Rattle.pool.specs.Pool.{shareOf, sharesOf, winsFit, shareRefusal, shareAnswer, shareList, numberOf}
 use Rattle.pool.specs.Shares.{Shares}
@@ -66,18 +66,12 @@ shares-law maximum wins =
 
 -- ---- which pools are shared
 
--- the number that two tests choose is 0 only where both fail
-neither : (lengths limits : Bool) → _≡_ {A = ℕ} (if lengths then 19 else if limits then 20 else 0) 0 → (lengths ≡ false) × (limits ≡ false)
-neither true limits e = absurd (omega arith)
-neither false true e = absurd (omega arith)
-neither false false e = (refl, refl)
-
 module _ (wins : List ℕ) (maximum room : ℕ) where
   -- no refusal: every limit is kept
   pub kept : shareRefusal wins maximum room ≡ 0 → (length wins ≡ room) × (length wins ≤ 7) × (winsFit wins ≡ true) × (maximum ≤ 75000)
   unfolding shareRefusal
   kept e =
-      let none = neither (not (eqb (length wins) room) || ltb 7 (length wins)) (not (winsFit wins) || ltb 75000 maximum) e in
+      let none = neither 19 20 (not (eqb (length wins) room) || ltb 7 (length wins)) (not (winsFit wins) || ltb 75000 maximum) (omega arith) (omega arith) e in
       let lengths = or-false (not (eqb (length wins) room)) (ltb 7 (length wins)) (none .0) in
       let limits = or-false (not (winsFit wins)) (ltb 75000 maximum) (none .1) in
       (eqb-true _ _ (not-false _ (lengths .0)), ltb-false _ _ (lengths .1), not-false _ (limits .0), ltb-false _ _ (limits .1))

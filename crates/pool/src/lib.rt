@@ -39,10 +39,16 @@ fn wins_fit(wins: &[u64]) -> bool
 fn share_refusal(wins: &[u64], maximum: u64, room: usize) -> u8
     ensures { λ r. ⌜ r ≡ shareRefusal (now (wins .entry)) maximum room ⌝ }
 {
-    if (wins.len() != room) | (7 < wins.len()) {
+    if wins.len() != room {
         return 19;
     }
-    if !wins_fit(wins) | (75000 < maximum) {
+    if 7 < wins.len() {
+        return 19;
+    }
+    if !wins_fit(wins) {
+        return 20;
+    }
+    if 75000 < maximum {
         return 20;
     }
     0

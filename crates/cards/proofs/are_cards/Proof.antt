@@ -1,6 +1,7 @@
-use Prim.Native.Nat.{_≤_, _-_}
+use Prim.Native.Nat.{_≤_, _<_, _-_}
 use mathlib.Core.Path.{_≡_, sym, _∙_}
-use lib.ListN.{length, drop}
+use native.Mathlib.Omega.{arith}
+use lib.ListN.{length, drop, getD}
 use borrow.Author.Tests.{le-leb, lt-leb}
 use borrow.Author.Needs.{needs}
 use Rattle.counting.specs.Count.{everyOf}
@@ -24,7 +25,8 @@ shared-slice-read-if1 c = search needs
 returns : tie.Need-returns Inv-loop μ-loop
 returns c =
     let p = c .before .before in
-    sym (p .before .loop .inv .1 ∙ everyOf-step isCard _ _ (p .loop-test .taken) ∙ simp (lt-leb _ _ (c .if1 .taken)))
+    let h : 51 < getD (p .before .before .args .cards .now) (p .before .loop .i) 0 = omega arith in
+    sym (p .before .loop .inv .1 ∙ everyOf-step isCard _ _ (p .loop-test .taken) ∙ simp (lt-leb _ _ h))
 
 add-i : tie.Need-add-i Inv-loop μ-loop
 add-i c = search needs
@@ -35,7 +37,8 @@ loop-less c = search needs
 loop-again : tie.Need-loop-again Inv-loop μ-loop
 loop-again c =
     let p = c .before .before in
-    (search needs, p .before .loop .inv .1 ∙ everyOf-step isCard _ _ (p .loop-test .taken) ∙ simp (le-leb _ _ (c .if1 .left)))
+    let h : getD (p .before .before .args .cards .now) (p .before .loop .i) 0 ≤ 51 = omega arith in
+    (search needs, p .before .loop .inv .1 ∙ everyOf-step isCard _ _ (p .loop-test .taken) ∙ simp (le-leb _ _ h))
 
 returns-2 : tie.Need-returns-2 Inv-loop μ-loop
 returns-2 c = sym (c .before .loop .inv .1 ∙ everyOf-end isCard _ _ (c .loop-test .left))
