@@ -3,6 +3,7 @@ pub mod Arrays
 pub mod Ranges
 pub mod Lists
 pub mod Fills
+pub mod Firsts
 pub mod Sums
 pub mod Orders
 pub mod Once

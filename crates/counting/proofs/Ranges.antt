@@ -2,7 +2,7 @@
 -- of each number.
 -- Assumes nothing.
 use Prim.Native.Nat.{ℕ, zero, suc, _+_, _≤_, _<_}
-use mathlib.Core.Path.{_≡_, refl, ap, sym, subst}
+use mathlib.Core.Path.{_≡_, refl, ap, sym, subst, _∙_}
 use mathlib.Core.Bool.{Bool, true, false, _||_}
 use native.Mathlib.Numerals.{add-one}
 use native.Mathlib.Omega.{arith}
@@ -10,7 +10,7 @@ use lib.Dec.{eqb}
 use borrow.Author.Tests.{eqb-true, eqb-false}
 use Rattle.counting.specs.Choose.{one}
 use Rattle.counting.specs.Count.{tally, everyBelow, someBelow}
-use Rattle.counting.proofs.Tests.{clash, and-true, or-false}
+use Rattle.counting.proofs.Tests.{clash, and-true, or-false, one-le}
 
 -- what holds at n and below n holds below suc n
 pub below-suc : (P : ℕ → Type 0) (n k : ℕ) → k < suc n → P n → (k < n → P k) → P k
@@ -45,6 +45,12 @@ every-broken f n k h e = go (everyBelow n f) refl
     go : (b : Bool) → everyBelow n f ≡ b → b ≡ false
     go true q = clash (f k) (every-at f n q k h) e
     go false q = refl
+
+-- where a test holds at each number below n
+pub every-of : (f : ℕ → Bool) (n : ℕ) → ((k : ℕ) → k < n → f k ≡ true) → everyBelow n f ≡ true
+unfolding everyBelow
+every-of f zero h = refl
+every-of f (suc n) h = rw (h n (omega arith)) (every-of f n (λ k p. h k (omega arith)))
 
 -- ---- some
 
@@ -108,3 +114,29 @@ tally-miss n f k i v h t = omega (arith, tally-step f i, ap one t)
 
 pub tally-done : (n : ℕ) (f : ℕ → Bool) (k i : ℕ) → Tallied n f k i → n ≤ i → k ≡ tally n f
 tally-done n f k i v h = let e : i ≡ n = omega arith in rw (← e) (v .2)
+
+pub tally-le : (n : ℕ) (f : ℕ → Bool) → tally n f ≤ n
+unfolding tally
+tally-le zero f = omega arith
+tally-le (suc n) f = omega (arith, tally-le n f, one-le (f n))
+
+pub tally-same : (n : ℕ) (f g : ℕ → Bool) → ((k : ℕ) → k < n → f k ≡ g k) → tally n f ≡ tally n g
+unfolding tally
+tally-same zero f g e = refl
+tally-same (suc n) f g e = omega (arith, ap one (e n (omega arith)), tally-same n f g (λ k h. e k (omega arith)))
+
+-- two tests that differ at j alone
+pub tally-one-more : (n j : ℕ) (f g : ℕ → Bool) → j < n → f j ≡ false → g j ≡ true → ((k : ℕ) → (k ≡ j → ⊥) → f k ≡ g k) → tally n g ≡ tally n f + 1
+unfolding tally
+tally-one-more zero j f g h p q e = absurd (omega arith)
+tally-one-more (suc n) j f g h p q e = go (eqb j n) refl (tally-one-more n j f g)
+  where
+    go : (t : Bool) → eqb j n ≡ t → (j < n → f j ≡ false → g j ≡ true → ((k : ℕ) → (k ≡ j → ⊥) → f k ≡ g k) → tally n g ≡ tally n f + 1)
+        → one (g n) + tally n g ≡ one (f n) + tally n f + 1
+    go true i rest =
+        let same : j ≡ n = eqb-true j n i in
+        let below = tally-same n f g (λ k l. e k (λ z. omega arith)) in
+        omega (arith, ap one (ap f (sym same) ∙ p), ap one (ap g (sym same) ∙ q), below)
+    go false i rest =
+        let other : (j ≡ n → ⊥) = eqb-false j n i in
+        omega (arith, ap one (e n (λ z. other (sym z))), rest (omega arith) p q e)

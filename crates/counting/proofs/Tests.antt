@@ -1,9 +1,11 @@
--- Tests taken apart.
+-- Tests taken apart and put together.
 -- Assumes nothing.
-use Prim.Native.Nat.{ℕ, _≤_, _<_}
+use Prim.Native.Nat.{ℕ, suc, _≤_, _<_}
 use mathlib.Core.Path.{_≡_, refl}
-use mathlib.Core.Bool.{Bool, true, false, _&&_, _||_}
+use mathlib.Core.Bool.{Bool, true, false, not, _&&_, _||_, or-true}
 use native.Mathlib.Omega.{arith}
+use lib.Dec.{eqb}
+use borrow.Author.Tests.{eqb-false, ne-eqb, not-true}
 use Rattle.counting.specs.Choose.{if_then_else_, one}
 
 -- no test holds and fails
@@ -39,3 +41,39 @@ pub neither : (a b : ℕ) (first second : Bool) → 0 < a → 0 < b → _≡_ {A
 neither a b true second p q e = absurd (omega arith)
 neither a b false true p q e = absurd (omega arith)
 neither a b false false p q e = (refl, refl)
+
+-- ---- put together
+
+pub both : (a b : Bool) → a ≡ true → b ≡ true → (a && b) ≡ true
+both a b p q = simp (p, q)
+
+pub first-holds : (a b : Bool) → a ≡ true → (a || b) ≡ true
+first-holds a b p = simp p
+
+pub second-holds : (a b : Bool) → b ≡ true → (a || b) ≡ true
+second-holds a b q = simp (q, or-true)
+
+pub other-holds : (a b : Bool) → (a || b) ≡ true → a ≡ false → b ≡ true
+other-holds true b e f = clash true refl f
+other-holds false b e f = e
+
+pub is-false : (t : Bool) → (t ≡ true → ⊥) → t ≡ false
+is-false true h = absurd (h refl)
+is-false false h = refl
+
+-- ---- a number that is not 0
+
+pub positive : (a : ℕ) → not (eqb a 0) ≡ true → 0 < a
+positive a e = let n : (a ≡ 0 → ⊥) = eqb-false a 0 (not-true _ e) in omega arith
+
+pub not-zero : (a : ℕ) → 0 < a → not (eqb a 0) ≡ true
+not-zero a h = let n : (a ≡ 0 → ⊥) = λ z. omega arith in simp (ne-eqb a 0 n)
+
+-- ---- refusals in order: there is none exactly where each test on the way passes
+
+pub passed : (t : Bool) (n rest : ℕ) → _≡_ {A = ℕ} (if not t then suc n else rest) 0 → (t ≡ true) × (rest ≡ 0)
+passed true n rest e = (refl, e)
+passed false n rest e = absurd (omega arith)
+
+pub pass : (t : Bool) (n rest : ℕ) → t ≡ true → rest ≡ 0 → _≡_ {A = ℕ} (if not t then n else rest) 0
+pass t n rest p q = simp (p, q)

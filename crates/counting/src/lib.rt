@@ -57,3 +57,20 @@ pub fn put52(a: [u8; 52], i: usize, v: u8) -> [u8; 52]
     }
     a
 }
+
+pub fn byte_at7(a: [u8; 7], i: usize) -> u8
+    ensures { λ r. ⌜ r ≡ getD a i 0 ⌝ }
+{
+    if i < 7 { a[i] } else { 0 }
+}
+
+pub fn put_byte7(a: [u8; 7], i: usize, v: u8) -> [u8; 7]
+    ensures { λ r. ⌜ r ≡ set a i v ⌝ }
+{
+    if i < 7 {
+        let mut x = a;
+        x[i] = v;
+        return x;
+    }
+    a
+}

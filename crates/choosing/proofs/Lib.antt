@@ -1,0 +1,9 @@
+pub mod Slot
+pub mod Street
+pub mod Allowed
+pub mod Kept
+pub mod Folds
+pub mod Own
+pub mod Stakes
+pub mod Swap
+pub mod Taken

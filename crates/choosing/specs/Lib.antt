@@ -1,0 +1,3 @@
+pub mod Streets
+pub mod Choice
+pub mod Slots

@@ -1,0 +1,4 @@
+pub mod Lists
+pub mod Cards
+pub mod Parts
+pub mod Own
