@@ -40,10 +40,10 @@ choices-all antes p o z h =
 
 -- ---- a slot where the seat has not chosen
 
-pub slot-empty : (p : Play) (s k : ℕ) → Sized p → s < 3 → k < 7 → hasChosen p s k ≡ false
+pub slot-empty : (p : Play) (s k : ℕ) → Sized p → k < 7 → hasChosen p s k ≡ false
     → firstChoices (s * 7 + k + 1) p ≡ firstChoices (s * 7 + k) p
 unfolding firstChoices hasChosen
-slot-empty p s k z l h e =
+slot-empty p s k z h e =
     let n = or-false (not (eqb (raiseOn p s k) 0)) (eqb (foldOf p k) (s + 1)) e in
     ap₂ play
     (firsts-skip (s * 7 + k) (p .raises) (eqb-true (raiseOn p s k) 0 (not-false _ (n .0))))

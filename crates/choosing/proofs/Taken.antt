@@ -88,8 +88,8 @@ module _ (p : Play) (s k c : ℕ) (long : Sized p) (ls : s < 3) (lk : k < 7) (st
       (tally-one-more 7 k (hasChosen p s) (hasChosen (chosen p s k c) s) lk not-yet now (λ j n. other s j (λ e. n (omega arith))))
       (λ i l n. sym (tally-same 7 (hasChosen p i) (hasChosen (chosen p s k c) i) (λ j h. other i j (λ e. n (omega arith)))))
 
-pub choice-taken : (antes : List ℕ) (p : Play) (b : List ℕ) → Sized p → streetsOver antes p < 3 → playFits antes p (streetsOver antes p + 1) ≡ true
-    → choiceRefusal antes p b ≡ 0 → choicesTaken (withChoice antes p b) ≡ choicesTaken p + 1
-choice-taken antes p b z here h e =
+pub choice-taken : (antes : List ℕ) (p : Play) (b : List ℕ) → Sized p → streetsOver antes p < 3 → choiceRefusal antes p b ≡ 0
+    → choicesTaken (withChoice antes p b) ≡ choicesTaken p + 1
+choice-taken antes p b z here e =
     let v = choice-accepted antes p b e in
     one-more p (streetsOver antes p) (place (byte b 1)) (byte b 2) z here (omega (arith, v .low, v .high)) (v .stays) (v .free)

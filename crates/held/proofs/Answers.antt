@@ -1,0 +1,25 @@
+-- An answer that is the test's decides which rounds are held; and the two answers to a record.
+-- Assumes nothing.
+use mathlib.Core.Path.{_≡_, sym, _∙_}
+use mathlib.Core.Bool.{Bool, true, false}
+use mathlib.Core.List.{List}
+use Prim.Native.Nat.{ℕ}
+use Rattle.counting.proofs.Tests.{clash}
+use Rattle.round.specs.declared.Round.{Round}
+use Rattle.round.specs.declared.Step.{Step}
+use Rattle.round.specs.Feed.{refused, feed}
+use Rattle.led.specs.Held.{isHeld}
+use Rattle.led.proofs.Kept.{Long, led-held}
+use Rattle.led.proofs.Exact.{held-led}
+use Rattle.held.specs.Take.{Decides, takes, Taken}
+
+pub decides : (r : Round) (t : Bool) → Long r → t ≡ isHeld r → Decides r t
+decides r t long e = record { test = e; led = λ h. held-led r long (sym e ∙ h); held = λ l. e ∙ led-held r l }
+
+pub taken-not : (r : Round) (b : List ℕ) (t : Bool) (s : Step) → Decides r t → t ≡ false → s ≡ refused 17 r → Taken r b s
+unfolding takes
+taken-not r b t s d e a = record { answer = simp (sym (d .test) ∙ e) a; led = λ l. clash t (d .held l) e; unled = λ n. a }
+
+pub taken : (r : Round) (b : List ℕ) (t : Bool) (s : Step) → Decides r t → t ≡ true → s ≡ feed r b → Taken r b s
+unfolding takes
+taken r b t s d e a = record { answer = simp (sym (d .test) ∙ e) a; led = λ l. a; unled = λ n. absurd (n (d .led e)) }
