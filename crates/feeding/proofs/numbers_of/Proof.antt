@@ -1,38 +1,34 @@
 use Prim.Native.Nat.{_≤_, _-_}
-use lib.ListN.{length}
 use borrow.Author.Needs.{needs}
 use Rattle.feeding.proofs.numbers_of.Statement.{statement}
 use Rattle.feeding.proofs.numbers_of.Tie as tie
 
 abbrev Inv-loop : tie.InvT-loop
-Inv-loop line numbers₀ i₀ numbers i = i ≤ length line
+Inv-loop line numbers₀ k₀ numbers k = k ≤ 21
 
 abbrev μ-loop : tie.MeasureT-loop
-μ-loop line numbers₀ i₀ numbers i = length line - i
-
-none-yet-requires : tie.Need-none-yet-requires Inv-loop μ-loop
-none-yet-requires c κs = search needs
+μ-loop line numbers₀ k₀ numbers k = 21 - k
 
 loop-holds : tie.Need-loop-holds Inv-loop μ-loop
 loop-holds c = search needs
 
-shared-slice-read-next : tie.Need-shared-slice-read-next Inv-loop μ-loop
-shared-slice-read-next c = search needs
+cast-put21 : tie.Need-cast-put21 Inv-loop μ-loop
+cast-put21 c = search needs
 
-next-requires : tie.Need-next-requires Inv-loop μ-loop
-next-requires c κs = search needs
+number-at-requires : tie.Need-number-at-requires Inv-loop μ-loop
+number-at-requires c κs = search needs
 
-add-i : tie.Need-add-i Inv-loop μ-loop
-add-i c = search needs
+put21-requires : tie.Need-put21-requires Inv-loop μ-loop
+put21-requires c κs = search needs
+
+add-k : tie.Need-add-k Inv-loop μ-loop
+add-k c = search needs
 
 loop-less : tie.Need-loop-less Inv-loop μ-loop
 loop-less c = search needs
 
 loop-again : tie.Need-loop-again Inv-loop μ-loop
 loop-again c = search needs
-
-gap-requires : tie.Need-gap-requires Inv-loop μ-loop
-gap-requires c κs = search needs
 
 returns : tie.Need-returns Inv-loop μ-loop
 returns c = search needs
@@ -43,12 +39,11 @@ numbers-of-spec =
     (tie.spec
     Inv-loop
     μ-loop
-    none-yet-requires
     loop-holds
-    shared-slice-read-next
-    next-requires
-    add-i
+    cast-put21
+    number-at-requires
+    put21-requires
+    add-k
     loop-less
     loop-again
-    gap-requires
     returns)
