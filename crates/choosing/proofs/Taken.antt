@@ -17,7 +17,6 @@ use Rattle.records.specs.Seats.{place}
 use Rattle.choosing.specs.declared.Play.{Play}
 use Rattle.choosing.specs.Streets.{raiseOn, foldOf, hasChosen, streetsOver, choicesTaken, noPlay}
 use Rattle.choosing.specs.Choice.{choiceRefusal, chosen, withChoice}
-use Rattle.choosing.specs.Slots.{playFits}
 use Rattle.choosing.proofs.Allowed.{Sized, choice-accepted, withFold, withRaise, fold-or-raise}
 
 pub none-taken : choicesTaken noPlay ≡ 0

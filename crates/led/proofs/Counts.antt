@@ -6,7 +6,6 @@ use mathlib.Core.List.{List}
 use native.Mathlib.Omega.{arith}
 use lib.ListN.{length}
 use Rattle.counting.specs.Choose.{one}
-use Rattle.counting.specs.Count.{tally}
 use Rattle.counting.proofs.Tests.{one-le}
 use Rattle.counting.proofs.Ranges.{tally-le}
 use Rattle.records.specs.Seats.{plays}
@@ -18,7 +17,7 @@ use Rattle.choosing.proofs.Taken.{choices-le, choice-taken, none-taken}
 use Rattle.round.specs.declared.Round.{Round}
 use Rattle.round.specs.Order.{freshRound}
 use Rattle.round.specs.Feed.{feed}
-use Rattle.led.specs.Led.{Leads, Led}
+use Rattle.led.specs.Led.{Leads}
 use Rattle.led.specs.Led.Leads.{done, then}
 use Rattle.led.specs.Records.{recordsTaken}
 use Rattle.led.proofs.Took.{Took, took}

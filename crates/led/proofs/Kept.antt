@@ -1,29 +1,29 @@
 -- Each round that accepted records lead to passes the test: what the test says of the four parts, and that each kind of record keeps it.
 -- Assumes nothing.
-use Prim.Native.Nat.{ℕ, _+_, _≤_, _<_}
-use mathlib.Core.Path.{_≡_, refl, sym, ap, subst, _∙_}
-use mathlib.Core.Bool.{Bool, true, false, _&&_}
+use Prim.Native.Nat.{ℕ, _+_, _<_}
+use mathlib.Core.Path.{_≡_, refl, sym, ap, _∙_}
+use mathlib.Core.Bool.{true, _&&_}
 use mathlib.Core.List.{List}
 use native.Mathlib.Omega.{arith}
 use lib.Dec.{eqb}
 use lib.ListN.{length}
 use borrow.Author.Tests.{eq-eqb, ne-eqb}
-use Rattle.counting.proofs.Tests.{and-true, both, first-holds, second-holds}
+use Rattle.counting.proofs.Tests.{and-true, first-holds, second-holds}
 use Rattle.records.specs.Seats.{anyPlays}
 use Rattle.seating.specs.Table.{noTable, tableFits, tableOf}
 use Rattle.seating.specs.Seat.{seatsFit, withSeat}
 use Rattle.seating.proofs.Tables.{table-fresh, table-kept}
 use Rattle.seating.proofs.Seats.{Seven, seat-seven, seats-before-table, seat-kept, seats-fresh}
 use Rattle.dealing.specs.Part.{deckFits, withPart}
-use Rattle.dealing.proofs.Parts.{part-sized, part-next, part-kept, deck-fresh}
-use Rattle.choosing.specs.Streets.{noPlay, streetsOver}
+use Rattle.dealing.proofs.Parts.{part-sized, part-kept, deck-fresh}
+use Rattle.choosing.specs.Streets.{streetsOver}
 use Rattle.choosing.specs.Choice.{withChoice}
 use Rattle.choosing.specs.Slots.{playFits}
 use Rattle.choosing.proofs.Allowed.{Sized, choice-sized, play-unopened, play-fresh}
 use Rattle.choosing.proofs.Kept.{play-kept}
 use Rattle.round.specs.declared.Round.{Round}
 use Rattle.round.specs.Order.{freshRound}
-use Rattle.round.specs.Feed.{feed, withTable, withWagers, withDeck, withPlay}
+use Rattle.round.specs.Feed.{feed, withWagers, withDeck, withPlay}
 use Rattle.led.specs.Led.{Leads, Led}
 use Rattle.led.specs.Led.Leads.{done, then}
 use Rattle.led.specs.Held.{opened, deckAfterSeats, isHeld}

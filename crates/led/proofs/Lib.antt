@@ -6,3 +6,4 @@ pub mod Exact
 pub mod Counts
 pub mod Swaps
 pub mod Facts
+pub mod Finish

@@ -7,15 +7,14 @@ use mathlib.Core.List.{List, _∷_}
 use native.Mathlib.Omega.{arith}
 use lib.ListN.{length}
 use Rattle.records.specs.Bytes.{byte}
-use Rattle.choosing.specs.declared.Play.{Play}
 use Rattle.choosing.specs.Streets.{streetsOver}
 use Rattle.choosing.specs.Choice.{choiceRefusal, withChoice}
 use Rattle.choosing.proofs.Swap.{swap-first, swap-street, swap-second, swap-play}
 use Rattle.round.specs.declared.Round.{Round}
 use Rattle.round.specs.Feed.{feed, withPlay}
 use Rattle.led.specs.Led.{isTaken, Leads}
-use Rattle.led.specs.Led.Leads.{done, then}
-use Rattle.led.proofs.Took.{Took, took, choice-none, choice-next, none-taken, none-next}
+use Rattle.led.specs.Led.Leads.{then}
+use Rattle.led.proofs.Took.{Took, took, choice-none, choice-next}
 use Rattle.led.proofs.Took.Took.{table, seat, part, choice}
 use Rattle.led.proofs.Leading.{join, one}
 

@@ -6,9 +6,9 @@ use mathlib.Core.Bool.{Bool, true, false, not, _&&_}
 use mathlib.Core.List.{List}
 use lib.Dec.{eqb, ltb}
 use lib.ListN.{length}
-use borrow.Author.Tests.{eqb-true, eqb-false, eq-eqb, lt-ltb, ltb-true, not-true, not-false}
+use borrow.Author.Tests.{eqb-true, eq-eqb, lt-ltb, ltb-true, not-true}
 use Rattle.counting.specs.Choose.{if_then_else_}
-use Rattle.counting.proofs.Tests.{clash, and-true, both, passed, pass}
+use Rattle.counting.proofs.Tests.{clash, and-true, passed, pass}
 use Rattle.records.specs.Bytes.{byte}
 use Rattle.records.specs.Seats.{anyPlays}
 use Rattle.seating.specs.Table.{hasTable, tableOf, tableRefusal}
@@ -17,8 +17,7 @@ use Rattle.dealing.specs.Part.{partRefusal, withPart}
 use Rattle.choosing.specs.Streets.{streetsOver}
 use Rattle.choosing.specs.Choice.{choiceRefusal, withChoice}
 use Rattle.round.specs.declared.Round.{Round}
-use Rattle.round.specs.declared.Answer.{Answer}
-use Rattle.round.specs.declared.Answer.the-variants.{Next, Finished, Refused}
+use Rattle.round.specs.declared.Answer.the-variants.{Next, Finished}
 use Rattle.round.specs.declared.Step.{Step}
 use Rattle.round.specs.Order.{isDealt, isPlaying, isFinished, mayCome}
 use Rattle.round.specs.Feed.{kindRefusal, refusal, withTable, withWagers, withDeck, withPlay, next, refused, accepted, feed}

@@ -3,39 +3,37 @@
 use Prim.Native.Nat.{ℕ, _+_, _*_, _<_}
 use mathlib.Core.Path.{_≡_, refl, sym, ap, subst, subst₂, _∙_}
 use mathlib.Core.Bool.{Bool, true, false}
-use mathlib.Core.List.{List, [], _∷_, _++_}
+use mathlib.Core.List.{[], _∷_}
 use native.Mathlib.Omega.{arith}
 use native.Mathlib.Nat.{add-assoc}
 use lib.Dec.{eqb}
-use lib.ListN.{length}
 use borrow.Author.Tests.{eqb-true, ne-eqb}
 use Rattle.counting.proofs.Tests.{other-holds}
 use Rattle.records.specs.Seats.{plays, anyPlays}
-use Rattle.seating.specs.Table.{noTable, hasTable, tableRecord}
-use Rattle.seating.specs.Seat.{noWagers, seatRecord}
+use Rattle.seating.specs.Table.{hasTable, tableRecord}
+use Rattle.seating.specs.Seat.{seatRecord}
 use Rattle.seating.specs.declared.Wagers.{Wagers}
 use Rattle.seating.proofs.Tables.{no-table, own-table, own-table-is, own-table-bytes}
 use Rattle.seating.proofs.Seats.{wagered}
 use Rattle.seating.proofs.Own.{firstSeats, seats-none, seats-all, own-absent, own-seat, own-seat-next, own-seat-bytes}
-use Rattle.dealing.specs.Part.{noDeck, partRecord}
+use Rattle.dealing.specs.Part.{partRecord}
 use Rattle.dealing.specs.declared.Deck.{Deck}
 use Rattle.dealing.proofs.Parts.{parts-le}
 use Rattle.dealing.proofs.Own as deal
-use Rattle.choosing.specs.Streets.{raiseOn, hasChosen, noPlay, streetsOver}
+use Rattle.choosing.specs.Streets.{raiseOn, hasChosen, streetsOver}
 use Rattle.choosing.specs.Choice.{choiceRecord}
 use Rattle.choosing.specs.declared.Play.{Play}
 use Rattle.choosing.specs.Slots.{playFits}
-use Rattle.choosing.proofs.Allowed.{no-choices}
 use Rattle.choosing.proofs.Own as choose
 use Rattle.round.specs.declared.Round.{Round}
 use Rattle.round.specs.Order.{freshRound}
 use Rattle.round.specs.Feed.{withTable, withWagers, withDeck, withPlay}
 use Rattle.led.specs.Led.{Leads}
-use Rattle.led.specs.Held.{opened, isHeld}
-use Rattle.led.specs.Records.{only, gather, tableRecords, seatRecords, partRecords, streetRecords, choiceRecords, recordsOf}
+use Rattle.led.specs.Held.{opened}
+use Rattle.led.specs.Records.{only, seatRecords, partRecords, streetRecords, choiceRecords, recordsOf}
 use Rattle.led.proofs.Took.{table-none, table-next, seat-none, seat-next, part-none, part-next, choice-none, choice-next}
 use Rattle.led.proofs.Leading.{join, stay, one, places}
-use Rattle.led.proofs.Kept.{Long, Fits, held-fits, not-opened, now-opened}
+use Rattle.led.proofs.Kept.{Long, Fits, now-opened}
 
 module _ (r : Round) (long : Long r) (fits : Fits r) where
   -- ---- the table

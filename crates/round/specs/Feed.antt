@@ -69,3 +69,9 @@ accepted r = record { answer = if isFinished r then Finished else Next; round = 
 -- Each record's answer is the next round, the finished round, or a refusal that names its cause.
 unfoldable pub feed : Round → List ℕ → Step
 feed r b = if not (eqb (refusal r b) 0) then refused (refusal r b) r else accepted (next r b)
+
+-- this paper's number for each answer: the refusal's, and 0 where the record was taken
+abbrev pub numberOf : Answer → ℕ
+numberOf Next = 0
+numberOf Finished = 0
+numberOf (Refused number) = number

@@ -1,8 +1,6 @@
 use Prim.Native.Nat.{ℕ, _≤_, _+_, _-_}
 use mathlib.Core.Path.{_≡_, refl, sym, ap, _∙_}
 use mathlib.Core.List.{List}
-use native.Mathlib.Omega.{arith}
-use lib.ListN.{length}
 use lib.Seq.{slice, sets}
 use Rattle.dealing.proofs.Cards.{cards-more, cards-end, cards-short}
 use borrow.Author.Needs.{needs}

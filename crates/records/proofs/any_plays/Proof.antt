@@ -1,5 +1,5 @@
 use Prim.Native.Nat.{_≤_, _-_}
-use mathlib.Core.Path.{_≡_, refl, sym}
+use mathlib.Core.Path.{_≡_, sym}
 use mathlib.Core.Bool.{false}
 use borrow.Author.Tests.{eq-eqb, ne-eqb}
 use Rattle.counting.specs.Count.{someBelow}

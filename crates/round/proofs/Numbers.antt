@@ -1,0 +1,25 @@
+-- The number of an answer is that of the record's refusal.
+-- Assumes nothing.
+use Prim.Native.Nat.{ℕ}
+use mathlib.Core.Path.{_≡_, refl}
+use mathlib.Core.Bool.{Bool, true, false, not}
+use mathlib.Core.List.{List}
+use lib.Dec.{eqb}
+use borrow.Author.Tests.{eqb-true}
+use Rattle.counting.specs.Choose.{if_then_else_}
+use Rattle.round.specs.declared.Round.{Round}
+use Rattle.round.specs.declared.Answer.the-variants.{Next, Finished}
+use Rattle.round.specs.Order.{isFinished}
+use Rattle.round.specs.Feed.{refusal, next, refused, accepted, feed, numberOf}
+
+on-or-finished : (t : Bool) → _≡_ {A = ℕ} (numberOf (if t then Finished else Next)) 0
+on-or-finished true = refl
+on-or-finished false = refl
+
+pub feed-number : (r : Round) (b : List ℕ) → numberOf (feed r b .answer) ≡ refusal r b
+unfolding feed
+feed-number r b = go (eqb (refusal r b) 0) refl
+  where
+    go : (t : Bool) → eqb (refusal r b) 0 ≡ t → numberOf ((if not t then refused (refusal r b) r else accepted (next r b)) .answer) ≡ refusal r b
+    go true e = rw (eqb-true (refusal r b) 0 e) (on-or-finished (isFinished (next r b)))
+    go false e = refl
