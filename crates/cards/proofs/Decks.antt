@@ -1,20 +1,20 @@
 -- What follows where cards have no fault, and that a whole deck holds each of the 52 cards exactly once.
 -- Assumes nothing.
 use Prim.Native.Nat.{ℕ, zero, suc, _≤_, _<_}
-use mathlib.Core.Path.{_≡_, refl}
+use mathlib.Core.Path.{_≡_, refl, sym, _∙_}
 use mathlib.Core.Bool.{true, false, not}
-use mathlib.Core.List.{List}
+use mathlib.Core.List.{List, _++_}
 use native.Mathlib.Omega.{arith}
 use lib.Dec.{eqb}
-use lib.ListN.{length, getD}
+use lib.ListN.{length, getD, length-append, List·getD-append}
 use borrow.Author.Tests.{leb-true, eqb-true, not-true, not-false}
 use Rattle.counting.specs.Count.{everyOf, sumBelow}
 use Rattle.counting.proofs.Tests.{and-true, or-false}
-use Rattle.counting.proofs.Lists.{everyOf-at}
+use Rattle.counting.proofs.Lists.{everyOf-at, everyOf-left}
 use Rattle.counting.proofs.Sums.{heaps-whole, squeezed}
 use Rattle.cards.specs.Card.{isCard}
 use Rattle.cards.specs.Deck.{repeats, faulty, wholeDeck}
-use Rattle.cards.proofs.Repeats.{copies, once-each}
+use Rattle.cards.proofs.Repeats.{places-differ, differ-places, copies, once-each}
 
 module _ (cs : List ℕ) (sound : faulty cs ≡ false) where
   parts : (not (everyOf isCard cs) ≡ false) × (repeats cs ≡ false)
@@ -48,3 +48,18 @@ pub whole-deck : (cs : List ℕ) → wholeDeck cs ≡ true → (c : ℕ) → c <
 whole-deck cs w =
     squeezed 52 (λ c. copies c cs) (λ c. 1) (λ c h. once-each cs (no-repeat cs (whole-sound cs w)) c)
     (omega (arith, ones 52, heaps-whole (λ c. c) 52 cs (below-52 cs (whole-sound cs w)), whole-length cs w))
+
+-- ---- no fault: what comes first of cards without fault has none
+
+sound : (cs : List ℕ) → everyOf isCard cs ≡ true → repeats cs ≡ false → faulty cs ≡ false
+unfolding faulty
+sound cs p q = simp (p, q)
+
+module _ (a b : List ℕ) where
+  left-differ : repeats (a ++ b) ≡ false → repeats a ≡ false
+  left-differ e = differ-places a λ i h j l same.
+      places-differ (a ++ b) e i (omega (arith, length-append a b)) j l
+      (List·getD-append a b 0 i h ∙ same ∙ sym (List·getD-append a b 0 j (omega arith)))
+
+  pub faulty-left : faulty (a ++ b) ≡ false → faulty a ≡ false
+  faulty-left e = sound a (everyOf-left isCard a b (are-cards (a ++ b) e)) (left-differ (no-repeat (a ++ b) e))

@@ -1,16 +1,18 @@
--- A list with only some of its numbers kept and zeros for the others; and the first n of them, one more at a time.
+-- A list with only some of its numbers kept and zeros for the others; and the first n of them, one more or some more at a time.
 -- Assumes nothing.
-use Prim.Native.Nat.{ℕ, zero, suc, _+_, _<_, _≤_}
+use Prim.Native.Nat.{ℕ, zero, suc, _+_, _-_, _<_, _≤_, min}
 use mathlib.Core.Path.{_≡_, refl, sym, ap, _∙_}
 use mathlib.Core.Bool.{Bool, true, false}
 use mathlib.Core.List.{List, [], _∷_}
 use native.Mathlib.Omega.{arith}
 use native.Mathlib.Nat.{add-zero}
 use lib.Dec.{eqb, ltb}
-use lib.ListN.{getD, set, length, length-set, replicate, length-replicate}
-use lib.Seq.{ext-getD, getD-set-same, getD-set-other, set-getD}
+use lib.ListN.{getD, set, length, length-set, replicate, length-replicate, take, drop, length-take, length-drop}
+use lib.Seq.{sets, ext-getD, getD-set-same, getD-set-other, set-getD, drop-cons, getD-take, getD-drop}
 use borrow.Author.Tests.{eqb-true, eqb-false, ltb-true, ltb-false, lt-ltb, le-ltb}
 use Rattle.counting.specs.Choose.{if_then_else_}
+use Rattle.counting.specs.Count.{everyOf}
+use Rattle.counting.proofs.Lists.{everyOf-at}
 
 -- the numbers that the test keeps, by place (the first is k) and value
 pub kept : (ℕ → ℕ → Bool) → ℕ → List ℕ → List ℕ
@@ -91,3 +93,33 @@ module _ (n : ℕ) (l : List ℕ) (long : length l ≡ n) where
   firsts-none =
       ext-getD 0 (firsts 0 l) (replicate n 0) (firsts-length 0 l ∙ long ∙ sym (length-replicate n 0)) λ j h.
       firsts-out 0 l j (omega arith) ∙ sym (zeros-at n j)
+
+pub firsts-take : (n : ℕ) (l : List ℕ) → take n (firsts n l) ≡ take n l
+firsts-take n l =
+    ext-getD 0 (take n (firsts n l)) (take n l) (length-take n (firsts n l) ∙ ap (min n) (firsts-length n l) ∙ sym (length-take n l)) λ j h.
+    let m : j < n = omega (arith, length-take n (firsts n l)) in
+    getD-take n (firsts n l) j 0 m ∙ firsts-in n l j m ∙ sym (getD-take n l j 0 m)
+
+-- the next m, written one by one
+pub firsts-on : (l : List ℕ) (m n : ℕ) → n + m ≤ length l → sets (firsts n l) n (take m (drop n l)) ≡ firsts (n + m) l
+firsts-on l zero n h = let e : n ≡ n + 0 = omega arith in ap (λ (k : ℕ). firsts k l) e
+firsts-on l (suc m) n h =
+    let e : suc n + m ≡ n + suc m = omega arith in
+    let one : n + 1 ≡ suc n = omega arith in
+    ap (λ (x : List ℕ). sets (firsts n l) n (take (suc m) x)) (drop-cons l n 0 (omega arith))
+    ∙ ap (λ (x : List ℕ). sets x (suc n) (take m (drop (suc n) l))) (sym (firsts-more n l) ∙ ap (λ (k : ℕ). firsts k l) one)
+    ∙ firsts-on l m (suc n) (omega arith)
+    ∙ ap (λ (k : ℕ). firsts k l) e
+
+-- where the others are zeros already
+pub firsts-rest : (n : ℕ) (l : List ℕ) → everyOf (λ x. eqb x 0) (drop n l) ≡ true → firsts n l ≡ l
+firsts-rest n l z = ext-getD 0 (firsts n l) l (firsts-length n l) (λ j h. go j h (ltb j n) refl)
+  where
+    go : (j : ℕ) → j < length (firsts n l) → (t : Bool) → ltb j n ≡ t → getD (firsts n l) j 0 ≡ getD l j 0
+    go j h true e = firsts-in n l j (ltb-true j n e)
+    go j h false e =
+        let past : n ≤ j = ltb-false j n e in
+        let same : n + (j - n) ≡ j = omega arith in
+        let inside : j - n < length (drop n l) = omega (arith, length-drop n l, firsts-length n l) in
+        let none : getD (drop n l) (j - n) 0 ≡ 0 = eqb-true _ _ (everyOf-at (λ x. eqb x 0) (drop n l) z (j - n) inside) in
+        firsts-out n l j past ∙ sym (ap (λ (k : ℕ). getD l k 0) (sym same) ∙ sym (getD-drop n l (j - n) 0) ∙ none)

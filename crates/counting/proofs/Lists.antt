@@ -1,16 +1,16 @@
--- Laws of counting and testing along a list that is read from the front, place by place.
+-- Laws of counting and testing along a list that is read from the front, place by place, and of testing a list that is put together or cut.
 -- Assumes nothing.
 use Prim.Native.Nat.{ℕ, zero, suc, _+_, _≤_, _<_}
-use mathlib.Core.Path.{_≡_, ap}
+use mathlib.Core.Path.{_≡_, refl, ap}
 use mathlib.Core.Bool.{Bool, true, false, _&&_}
-use mathlib.Core.List.{List, [], _∷_}
+use mathlib.Core.List.{List, [], _∷_, _++_}
 use native.Mathlib.Numerals.{add-one}
 use native.Mathlib.Omega.{arith}
 use lib.ListN.{length, getD, drop, drop-of-length-le}
 use lib.Seq.{drop-cons}
 use Rattle.counting.specs.Choose.{one}
 use Rattle.counting.specs.Count.{count, everyOf, total}
-use Rattle.counting.proofs.Tests.{and-true}
+use Rattle.counting.proofs.Tests.{and-true, both}
 
 -- ---- count: a loop at place i that has found n
 
@@ -49,6 +49,38 @@ unfolding everyOf
 everyOf-at f [] e k h = absurd (omega arith)
 everyOf-at f (x ∷ xs) e zero h = and-true (f x) (everyOf f xs) e .0
 everyOf-at f (x ∷ xs) e (suc k) h = everyOf-at f xs (and-true (f x) (everyOf f xs) e .1) k (omega arith)
+
+-- of lists that are put together or cut
+module _ (f : ℕ → Bool) where
+  pub everyOf-both : (a b : List ℕ) → everyOf f a ≡ true → everyOf f b ≡ true → everyOf f (a ++ b) ≡ true
+  unfolding everyOf
+  everyOf-both [] b p q = q
+  everyOf-both (x ∷ xs) b p q =
+      let t = and-true (f x) (everyOf f xs) p in both (f x) (everyOf f (xs ++ b)) (t .0) (everyOf-both xs b (t .1) q)
+
+  pub everyOf-left : (a b : List ℕ) → everyOf f (a ++ b) ≡ true → everyOf f a ≡ true
+  unfolding everyOf
+  everyOf-left [] b e = refl
+  everyOf-left (x ∷ xs) b e =
+      let t = and-true (f x) (everyOf f (xs ++ b)) e in both (f x) (everyOf f xs) (t .0) (everyOf-left xs b (t .1))
+
+  pub everyOf-right : (a b : List ℕ) → everyOf f (a ++ b) ≡ true → everyOf f b ≡ true
+  unfolding everyOf
+  everyOf-right [] b e = e
+  everyOf-right (x ∷ xs) b e = everyOf-right xs b (and-true (f x) (everyOf f (xs ++ b)) e .1)
+
+  pub everyOf-drop : (n : ℕ) (l : List ℕ) → everyOf f l ≡ true → everyOf f (drop n l) ≡ true
+  unfolding everyOf
+  everyOf-drop zero l e = e
+  everyOf-drop (suc n) [] e = refl
+  everyOf-drop (suc n) (x ∷ xs) e = everyOf-drop n xs (and-true (f x) (everyOf f xs) e .1)
+
+  -- a weaker test holds too
+  pub everyOf-weaker : (g : ℕ → Bool) → ((x : ℕ) → f x ≡ true → g x ≡ true) → (l : List ℕ) → everyOf f l ≡ true → everyOf g l ≡ true
+  unfolding everyOf
+  everyOf-weaker g w [] e = refl
+  everyOf-weaker g w (x ∷ xs) e =
+      let t = and-true (f x) (everyOf f xs) e in both (g x) (everyOf g xs) (w x (t .0)) (everyOf-weaker g w xs (t .1))
 
 -- ---- total
 

@@ -1,4 +1,3 @@
-pub mod Lists
 pub mod Cards
 pub mod Parts
 pub mod Own

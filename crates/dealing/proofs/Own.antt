@@ -1,59 +1,25 @@
 -- The parts of a deck, written again one by one, lead to it.
 -- Assumes nothing.
-use Prim.Native.Nat.{ℕ, zero, suc, _+_, _-_, _*_, _≤_, _<_, min}
+use Prim.Native.Nat.{ℕ, _+_, _-_, _*_, _≤_, _<_}
 use mathlib.Core.Path.{_≡_, refl, sym, ap, _∙_}
-use mathlib.Core.Bool.{Bool, true, false}
+use mathlib.Core.Bool.{true, false}
 use mathlib.Core.List.{List, [], _∷_, _++_}
 use native.Mathlib.Omega.{arith}
 use lib.Dec.{eqb, ltb}
-use lib.ListN.{length, getD, take, drop, length-append, length-drop, length-take}
-use lib.Seq.{sets, ext-getD, drop-cons, getD-take, getD-drop, length-take-le, take-add, take-at, drop-at}
-use borrow.Author.Tests.{eqb-true, eq-eqb, ltb-true, ltb-false, lt-ltb, leb-true}
+use lib.ListN.{length, take, drop, length-append, length-drop}
+use lib.Seq.{sets, length-take-le, take-add, take-at, drop-at}
+use borrow.Author.Tests.{eq-eqb, lt-ltb, leb-true}
 use Rattle.counting.specs.Count.{everyOf}
 use Rattle.counting.proofs.Tests.{both, pass}
-use Rattle.counting.proofs.Lists.{everyOf-at}
-use Rattle.counting.proofs.Firsts.{firsts, firsts-length, firsts-in, firsts-out, firsts-more, firsts-none}
+use Rattle.counting.proofs.Lists.{everyOf-both, everyOf-right, everyOf-weaker}
+use Rattle.counting.proofs.Firsts.{firsts, firsts-none, firsts-take, firsts-on, firsts-rest}
 use Rattle.cards.specs.Card.{isCard}
 use Rattle.cards.specs.Deck.{faulty}
-use Rattle.cards.proofs.Decks.{are-cards}
+use Rattle.cards.proofs.Decks.{are-cards, faulty-left}
 use Rattle.records.specs.Bytes.{byte, zeroFrom, areBytes}
 use Rattle.dealing.specs.declared.Deck.{Deck}
 use Rattle.dealing.specs.Part.{thirteenOf, dealt, withPart, partRefusal, noDeck, deckFits, partRecord}
-use Rattle.dealing.proofs.Lists.{everyOf-both, everyOf-right, everyOf-weaker, faulty-left}
 use Rattle.dealing.proofs.Parts.{part-more, parts-le, deck-sound, deck-zeros}
-
--- ---- the first cards of a list, the others zeros
-
-firsts-take : (n : ℕ) (l : List ℕ) → take n (firsts n l) ≡ take n l
-firsts-take n l =
-    ext-getD 0 (take n (firsts n l)) (take n l) (length-take n (firsts n l) ∙ ap (min n) (firsts-length n l) ∙ sym (length-take n l)) λ j h.
-    let m : j < n = omega (arith, length-take n (firsts n l)) in
-    getD-take n (firsts n l) j 0 m ∙ firsts-in n l j m ∙ sym (getD-take n l j 0 m)
-
--- the next m, written one by one
-firsts-on : (l : List ℕ) (m n : ℕ) → n + m ≤ length l → sets (firsts n l) n (take m (drop n l)) ≡ firsts (n + m) l
-firsts-on l zero n h = let e : n ≡ n + 0 = omega arith in ap (λ (k : ℕ). firsts k l) e
-firsts-on l (suc m) n h =
-    let e : suc n + m ≡ n + suc m = omega arith in
-    let one : n + 1 ≡ suc n = omega arith in
-    ap (λ (x : List ℕ). sets (firsts n l) n (take (suc m) x)) (drop-cons l n 0 (omega arith))
-    ∙ ap (λ (x : List ℕ). sets x (suc n) (take m (drop (suc n) l))) (sym (firsts-more n l) ∙ ap (λ (k : ℕ). firsts k l) one)
-    ∙ firsts-on l m (suc n) (omega arith)
-    ∙ ap (λ (k : ℕ). firsts k l) e
-
--- where the others are zeros already
-firsts-rest : (n : ℕ) (l : List ℕ) → zeroFrom n l ≡ true → firsts n l ≡ l
-unfolding zeroFrom
-firsts-rest n l z = ext-getD 0 (firsts n l) l (firsts-length n l) (λ j h. go j h (ltb j n) refl)
-  where
-    go : (j : ℕ) → j < length (firsts n l) → (t : Bool) → ltb j n ≡ t → getD (firsts n l) j 0 ≡ getD l j 0
-    go j h true e = firsts-in n l j (ltb-true j n e)
-    go j h false e =
-        let past : n ≤ j = ltb-false j n e in
-        let same : n + (j - n) ≡ j = omega arith in
-        let inside : j - n < length (drop n l) = omega (arith, length-drop n l, firsts-length n l) in
-        let none : getD (drop n l) (j - n) 0 ≡ 0 = eqb-true _ _ (everyOf-at (λ x. eqb x 0) (drop n l) z (j - n) inside) in
-        firsts-out n l j past ∙ sym (ap (λ (k : ℕ). getD l k 0) (sym same) ∙ sym (getD-drop n l (j - n) 0) ∙ none)
 
 -- ---- the deck of the first n parts
 
@@ -65,7 +31,7 @@ unfolding firstParts
 parts-none d long = ap (λ (cs : List ℕ). record { cards = cs; parts = 0 }) (firsts-none 52 (d .cards) long)
 
 pub parts-all : (d : Deck) → length (d .cards) ≡ 52 → deckFits d ≡ true → firstParts (d .parts) d ≡ d
-unfolding firstParts
+unfolding firstParts zeroFrom
 parts-all d long fits =
     ap (λ (cs : List ℕ). record { cards = cs; parts = d .parts }) (firsts-rest (13 * d .parts) (d .cards) (deck-zeros d fits))
 

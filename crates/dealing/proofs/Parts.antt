@@ -12,11 +12,11 @@ use borrow.Author.Tests.{eqb-true, eq-eqb, leb-true, le-leb, lt-ltb, not-true}
 use Rattle.counting.specs.Choose.{if_then_else_}
 use Rattle.counting.specs.Count.{everyOf, someBelow}
 use Rattle.counting.proofs.Tests.{and-true, passed}
+use Rattle.counting.proofs.Lists.{everyOf-drop}
 use Rattle.cards.specs.Deck.{repeats, faulty, wholeDeck}
 use Rattle.records.specs.Bytes.{byte, zeroFrom}
 use Rattle.dealing.specs.declared.Deck.{Deck}
 use Rattle.dealing.specs.Part.{thirteenOf, dealt, withPart, partRefusal, noDeck, deckFits}
-use Rattle.dealing.proofs.Lists.{everyOf-drop}
 
 -- ---- an accepted part
 
