@@ -15,13 +15,16 @@ use Rattle.choosing.specs.declared.Play.{Play}
 use Rattle.choosing.specs.Streets.{raiseOn, foldOf}
 use Rattle.choosing.specs.Slots.{foldFits, raiseFits, slotFits, streetFits, playFits}
 
--- o streets have opened, s is the street; a the ante, f the fold and x the raise
+-- o streets have opened, s is the street; a the ante, f the fold and x the raise. Each fact is linear, so that omega reads them all.
 pub record Slot (o s a f x : ℕ) : Type 0 where
+  -- a fold is on one of three streets, that has opened, by a seat that plays
   pub fold3 : f ≤ 3
   pub foldo : f ≤ o
   pub folda : f ≤ 3 * a
+  -- a raise is by at most three antes; without one there is no later fold
   pub top : x ≤ 3
   pub late : f ≤ s + 1 + 3 * x
+  -- with one the street has opened, the seat plays, and has not folded by then (no fold counts as one after the last street)
   pub unlocked : x ≤ 3 * (o - s)
   pub plays : x ≤ 3 * a
   pub early : x ≤ 3 * ((f + 4 * (1 - f)) - (s + 1))
