@@ -11,13 +11,26 @@ use round::Round;
 use seating::Table;
 use seating::Wagers;
 ghost use mathlib.Core.Path.{_≡_};
-ghost use lib.ListN.{set};
-ghost use Rattle.round.specs.Feed.{withTable, withWagers, withDeck, withPlay};
-ghost use Rattle.by_hand.specs.Lists.{wagersWith};
+ghost use Rattle.counting.specs.Choose.{if_then_else_};
+ghost use Rattle.by_hand.specs.Changes.{tableWith, wagersWith, withNumber, withWager, withCard, withParts, withRaise, withFold, changed};
 
-pub fn with_table(round: Round, table: Table) -> Round
-    ensures { λ r. ⌜ r ≡ withTable round table ⌝ }
+fn chosen(test: bool, a: u8, b: u8) -> u8
+    ensures { λ r. ⌜ r ≡ (if test then a else b) ⌝ }
 {
+    if test { a } else { b }
+}
+
+fn with_number(round: Round, place: u8, number: u8) -> Round
+    ensures { λ r. ⌜ r ≡ withNumber round place number ⌝ }
+{
+    let table = Table {
+        smallest: chosen(place == 0, number, round.table.smallest),
+        largest: chosen(place == 1, number, round.table.largest),
+        base: chosen(place == 2, number, round.table.base),
+        lo: chosen(place == 3, number, round.table.lo),
+        board: chosen(place == 4, number, round.table.board),
+        pocket: chosen(4 < place, number, round.table.pocket),
+    };
     let mut next = round;
     next.table = table;
     next
@@ -53,8 +66,8 @@ fn wagers_with(wagers: Wagers, list: u8, place: u8, dollars: u16) -> Wagers
     next
 }
 
-pub fn with_wager(round: Round, list: u8, place: u8, dollars: u16) -> Round
-    ensures { λ r. ⌜ r ≡ withWagers round (wagersWith (round .wagers) list place dollars) ⌝ }
+fn with_wager(round: Round, list: u8, place: u8, dollars: u16) -> Round
+    ensures { λ r. ⌜ r ≡ withWager round list place dollars ⌝ }
 {
     let wagers = round.wagers;
     let more = wagers_with(wagers, list, place, dollars);
@@ -63,8 +76,8 @@ pub fn with_wager(round: Round, list: u8, place: u8, dollars: u16) -> Round
     next
 }
 
-pub fn with_card(round: Round, place: u8, card: u8) -> Round
-    ensures { λ r. ⌜ r ≡ withDeck round (record { cards = set (round .deck .cards) place card; parts = round .deck .parts }) ⌝ }
+fn with_card(round: Round, place: u8, card: u8) -> Round
+    ensures { λ r. ⌜ r ≡ withCard round place card ⌝ }
 {
     let cards = round.deck.cards;
     let deck = Deck {
@@ -76,17 +89,16 @@ pub fn with_card(round: Round, place: u8, card: u8) -> Round
     next
 }
 
-pub fn with_parts(round: Round, parts: u8) -> Round
-    ensures { λ r. ⌜ r ≡ withDeck round (record { cards = round .deck .cards; parts = parts }) ⌝ }
+fn with_parts(round: Round, parts: u8) -> Round
+    ensures { λ r. ⌜ r ≡ withParts round parts ⌝ }
 {
     let mut next = round;
     next.deck.parts = parts;
     next
 }
 
-// The raise at a place of the 21, street by street.
-pub fn with_raise(round: Round, place: u8, raise: u8) -> Round
-    ensures { λ r. ⌜ r ≡ withPlay round (record { raises = set (round .play .raises) place raise; folds = round .play .folds }) ⌝ }
+fn with_raise(round: Round, place: u8, raise: u8) -> Round
+    ensures { λ r. ⌜ r ≡ withRaise round place raise ⌝ }
 {
     let raises = round.play.raises;
     let folds = round.play.folds;
@@ -99,8 +111,8 @@ pub fn with_raise(round: Round, place: u8, raise: u8) -> Round
     next
 }
 
-pub fn with_fold(round: Round, place: u8, street: u8) -> Round
-    ensures { λ r. ⌜ r ≡ withPlay round (record { raises = round .play .raises; folds = set (round .play .folds) place street }) ⌝ }
+fn with_fold(round: Round, place: u8, street: u8) -> Round
+    ensures { λ r. ⌜ r ≡ withFold round place street ⌝ }
 {
     let raises = round.play.raises;
     let folds = round.play.folds;
@@ -111,4 +123,20 @@ pub fn with_fold(round: Round, place: u8, street: u8) -> Round
     let mut next = round;
     next.play = play;
     next
+}
+
+// What a letter and its numbers make of a round; with any other letter it is left as it is.
+pub fn changed(round: Round, letter: u8, a: u8, b: u8, c: u8) -> Round
+    ensures { λ r. ⌜ r ≡ changed round letter a b c ⌝ }
+{
+    match letter {
+        99 => with_card(round, a, b), // c
+        102 => Round::fresh(), // f
+        104 => with_fold(round, a, b), // h
+        112 => with_parts(round, a), // p
+        114 => with_raise(round, a, b), // r
+        116 => with_number(round, a, b), // t
+        119 => with_wager(round, a, b, c as u16), // w
+        _ => round,
+    }
 }

@@ -1,5 +1,5 @@
 use borrow.Author.Tests.{eq-eqb, ne-eqb}
-use Rattle.by_hand.specs.Lists.{wagersWith}
+use Rattle.by_hand.specs.Changes.{wagersWith}
 use borrow.Author.Needs.{needs}
 use Rattle.by_hand.proofs.wagers_with.Statement.{statement}
 use Rattle.by_hand.proofs.wagers_with.Tie as tie

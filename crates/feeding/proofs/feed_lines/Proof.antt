@@ -1,5 +1,6 @@
 use Prim.Native.Nat.{_≤_, _+_, _-_}
 use lib.ListN.{length}
+use Rattle.columns.proofs.Lines.{line-within}
 use borrow.Author.Needs.{needs}
 use Rattle.feeding.proofs.feed_lines.Statement.{statement}
 use Rattle.feeding.proofs.feed_lines.Tie as tie
@@ -26,7 +27,11 @@ part-line-start : tie.Need-part-line-start Inv-loop μ-loop
 part-line-start c = search needs
 
 part-line-end : tie.Need-part-line-end Inv-loop μ-loop
-part-line-end c = search needs
+part-line-end c =
+    let text = c .before .before .before .before .before .args .text .now in
+    let at = c .before .before .loop .at in
+    let h : at ≤ length text = search needs in
+    search (needs, line-within text at h)
 
 write-all-requires : tie.Need-write-all-requires Inv-loop μ-loop
 write-all-requires c κs = search needs
@@ -41,13 +46,21 @@ write-all-requires-2 : tie.Need-write-all-requires-2 Inv-loop μ-loop
 write-all-requires-2 c κs = search needs
 
 add-at : tie.Need-add-at Inv-loop μ-loop
-add-at c = search needs
+add-at c =
+    let text = c .before .before .before .before .before .before .before .before .before .before .args .text .now in
+    let at = c .before .before .before .before .before .before .before .loop .at in
+    let h : at ≤ length text = search needs in
+    search (needs, line-within text at h)
 
 loop-less : tie.Need-loop-less Inv-loop μ-loop
 loop-less c = search needs
 
 loop-again : tie.Need-loop-again Inv-loop μ-loop
-loop-again c = search needs
+loop-again c =
+    let text = c .before .before .before .before .before .before .before .before .before .before .args .text .now in
+    let at = c .before .before .before .before .before .before .before .loop .at in
+    let h : at ≤ length text = search needs in
+    search (needs, line-within text at h)
 
 returns : tie.Need-returns Inv-loop μ-loop
 returns c = search needs

@@ -1,16 +1,20 @@
-use Prim.Native.Nat.{_≤_, _-_}
+use Prim.Native.Nat.{_≤_, _<_, _-_}
+use mathlib.Core.Path.{_≡_}
+use lib.ListN.{length}
+use native.Mathlib.Omega.{arith}
+use Rattle.columns.proofs.Read.{Read, read-more}
 use borrow.Author.Needs.{needs}
-use Rattle.feeding.proofs.numbers_of.Statement.{statement}
-use Rattle.feeding.proofs.numbers_of.Tie as tie
+use Rattle.columns.proofs.numbers_of.Statement.{statement}
+use Rattle.columns.proofs.numbers_of.Tie as tie
 
 abbrev Inv-loop : tie.InvT-loop
-Inv-loop line numbers₀ k₀ numbers k = k ≤ 21
+Inv-loop line numbers₀ k₀ numbers k = (k ≤ 21) × (length numbers ≡ 21) × Read line numbers k
 
 abbrev μ-loop : tie.MeasureT-loop
 μ-loop line numbers₀ k₀ numbers k = 21 - k
 
 loop-holds : tie.Need-loop-holds Inv-loop μ-loop
-loop-holds c = search needs
+loop-holds c = (search needs, search needs, λ j h. absurd (omega arith))
 
 cast-put21 : tie.Need-cast-put21 Inv-loop μ-loop
 cast-put21 c = search needs
@@ -28,10 +32,14 @@ loop-less : tie.Need-loop-less Inv-loop μ-loop
 loop-less c = search needs
 
 loop-again : tie.Need-loop-again Inv-loop μ-loop
-loop-again c = search needs
+loop-again c =
+    let numbers = c .before .before .before .loop .numbers in
+    let k = c .before .before .before .loop .k in
+    let h : k < length numbers = search needs in
+    (search needs, search needs, simp (c .put21 .ensures, c .before .number-at .ensures) (read-more _ numbers k h (c .before .before .before .loop .inv .2)))
 
 returns : tie.Need-returns Inv-loop μ-loop
-returns c = search needs
+returns c = λ j h. c .before .loop .inv .2 j (omega arith)
 
 pub numbers-of-spec : {M : Type 1} → statement M
 numbers-of-spec =
