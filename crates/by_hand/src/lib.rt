@@ -12,7 +12,7 @@ use seating::Table;
 use seating::Wagers;
 ghost use mathlib.Core.Path.{_≡_};
 ghost use Rattle.counting.specs.Choose.{if_then_else_};
-ghost use Rattle.by_hand.specs.Changes.{tableWith, wagersWith, withNumber, withWager, withCard, withParts, withRaise, withFold, changed};
+ghost use Rattle.by_hand.specs.Changes.{wagersWith, withNumber, withWager, withCard, withParts, withRaise, withFold, changed};
 
 fn chosen(test: bool, a: u8, b: u8) -> u8
     ensures { λ r. ⌜ r ≡ (if test then a else b) ⌝ }
