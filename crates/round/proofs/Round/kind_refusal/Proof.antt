@@ -1,4 +1,5 @@
-use mathlib.Core.Path.{sym, _∙_}
+use mathlib.Core.Path.{sym, ap, _∙_}
+use lib.Dec.{eqb}
 use borrow.Author.Tests.{ne-eqb}
 use Rattle.round.specs.Feed.{kindRefusal}
 use borrow.Author.Needs.{needs}
@@ -22,24 +23,30 @@ choice-refusal-requires c κs = search needs
 
 returns : tie.Need-returns
 unfolding kindRefusal
-returns c = simp (sym (c .before .before .byte-at .ensures) ∙ c .before .match .keys1) (c .table-refusal .ensures)
+returns c =
+    let e = sym (c .before .before .byte-at .ensures) ∙ c .before .match .keys1 in
+    rw (ap (λ n. eqb n 1) e) (c .table-refusal .ensures)
 
 returns-2 : tie.Need-returns-2
 unfolding kindRefusal
-returns-2 c = simp (sym (c .before .before .byte-at .ensures) ∙ c .before .match .keys2) (c .seat-refusal .ensures)
+returns-2 c =
+    let e = sym (c .before .before .byte-at .ensures) ∙ c .before .match .keys2 in
+    rw (ap (λ n. eqb n 1) e, ap (λ n. eqb n 2) e) (c .seat-refusal .ensures)
 
 returns-3 : tie.Need-returns-3
 unfolding kindRefusal
-returns-3 c = simp (sym (c .before .before .byte-at .ensures) ∙ c .before .match .keys3) (c .part-refusal .ensures)
+returns-3 c =
+    let e = sym (c .before .before .byte-at .ensures) ∙ c .before .match .keys3 in
+    rw (ap (λ n. eqb n 1) e, ap (λ n. eqb n 2) e, ap (λ n. eqb n 3) e) (c .part-refusal .ensures)
 
 returns-4 : tie.Need-returns-4
 unfolding kindRefusal
 returns-4 c =
-    let n = c .before .match .rest in
-    simp (
-      ne-eqb _ 1 (λ e. n .0 .0 .1 (c .before .before .byte-at .ensures ∙ e)),
-      ne-eqb _ 2 (λ e. n .0 .1 (c .before .before .byte-at .ensures ∙ e)),
-      ne-eqb _ 3 (λ e. n .1 (c .before .before .byte-at .ensures ∙ e)),
+    let n = c .before .before .match .rest in
+    rw (
+      ne-eqb _ 1 (λ e. n .0 .0 .1 (c .before .before .before .byte-at .ensures ∙ e)),
+      ne-eqb _ 2 (λ e. n .0 .1 (c .before .before .before .byte-at .ensures ∙ e)),
+      ne-eqb _ 3 (λ e. n .1 (c .before .before .before .byte-at .ensures ∙ e)),
     ) (c .choice-refusal .ensures)
 
 pub kind-refusal-spec : {M : Type 1} → statement M

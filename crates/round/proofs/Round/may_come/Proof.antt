@@ -1,3 +1,4 @@
+use mathlib.Core.Path.{refl}
 use borrow.Author.Tests.{ne-eqb}
 use Rattle.round.specs.Order.{mayCome}
 use borrow.Author.Needs.{needs}
@@ -18,25 +19,25 @@ is-playing-requires c κs = search needs
 
 returns : tie.Need-returns
 unfolding mayCome
-returns c = simp (c .before .match .keys1, c .is-read .ensures)
+returns c = rw (c .before .match .keys1, c .is-read .ensures) refl
 
 returns-2 : tie.Need-returns-2
 unfolding mayCome
-returns-2 c = simp (c .before .before .match .keys2, c .before .is-read2 .ensures)
+returns-2 c = rw (c .before .before .match .keys2, c .before .is-read2 .ensures) refl
 
 returns-3 : tie.Need-returns-3
 unfolding mayCome
-returns-3 c = simp (c .before .before .match .keys3, c .before .any-plays .ensures)
+returns-3 c = rw (c .before .before .before .match .keys3, c .before .any-plays .ensures) refl
 
 returns-4 : tie.Need-returns-4
 unfolding mayCome
-returns-4 c = simp (c .before .before .match .keys4, c .is-playing .ensures)
+returns-4 c = rw (c .before .before .match .keys4, c .is-playing .ensures) refl
 
 returns-5 : tie.Need-returns-5
 unfolding mayCome
 returns-5 c =
     let n = c .match .rest in
-    simp (ne-eqb _ _ (n .1), ne-eqb _ _ (n .0 .1), ne-eqb _ _ (n .0 .0 .1), ne-eqb _ _ (n .0 .0 .0 .1))
+    rw (ne-eqb _ _ (n .1), ne-eqb _ _ (n .0 .1), ne-eqb _ _ (n .0 .0 .1), ne-eqb _ _ (n .0 .0 .0 .1)) refl
 
 pub may-come-spec : {M : Type 1} → statement M
 may-come-spec =
