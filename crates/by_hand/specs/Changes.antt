@@ -10,7 +10,7 @@ use Rattle.round.specs.declared.Round.{Round}
 use Rattle.round.specs.Order.{freshRound}
 use Rattle.round.specs.Feed.{withTable, withWagers, withDeck, withPlay}
 
--- The table's numbers, by place: smallest and largest ante, then the base, Lo Ball, Board and Pocket pay tables.
+-- The table's six numbers, by place: smallest and largest ante, base, Lo Ball, Board and, from place 5 on, Pocket table.
 abbrev pub tableWith : Table → ℕ → ℕ → Table
 tableWith t place n =
     record {
@@ -22,7 +22,7 @@ tableWith t place n =
       pocket = if ltb 4 place then n else t .pocket;
     }
 
--- The lists of wagers, by number: antes, Board, Pocket, Lo Ball.
+-- The lists of wagers, by number: antes, Board, Pocket and, from number 3 on, Lo Ball.
 unfoldable pub wagersWith : Wagers → ℕ → ℕ → ℕ → Wagers
 wagersWith w list place dollars =
     if eqb list 0 then record { antes = set (w .antes) place dollars; board = w .board; pocket = w .pocket; lo = w .lo }
@@ -31,30 +31,30 @@ wagersWith w list place dollars =
     else record { antes = w .antes; board = w .board; pocket = w .pocket; lo = set (w .lo) place dollars }
 
 -- The round with another number in its table.
-unfoldable pub withNumber : Round → ℕ → ℕ → Round
+abbrev pub withNumber : Round → ℕ → ℕ → Round
 withNumber r place n = withTable r (tableWith (r .table) place n)
 
 -- The round with another wager.
-unfoldable pub withWager : Round → ℕ → ℕ → ℕ → Round
+abbrev pub withWager : Round → ℕ → ℕ → ℕ → Round
 withWager r list place dollars = withWagers r (wagersWith (r .wagers) list place dollars)
 
 -- The round with another card.
-unfoldable pub withCard : Round → ℕ → ℕ → Round
+abbrev pub withCard : Round → ℕ → ℕ → Round
 withCard r place card = withDeck r (record { cards = set (r .deck .cards) place card; parts = r .deck .parts })
 
 -- The round with another number of deck parts read.
-unfoldable pub withParts : Round → ℕ → Round
+abbrev pub withParts : Round → ℕ → Round
 withParts r parts = withDeck r (record { cards = r .deck .cards; parts = parts })
 
--- The round with another raise, by place of the 21, street by street.
-unfoldable pub withRaise : Round → ℕ → ℕ → Round
+-- The round with another raise, at a place of the 21, street by street.
+abbrev pub withRaise : Round → ℕ → ℕ → Round
 withRaise r place raise = withPlay r (record { raises = set (r .play .raises) place raise; folds = r .play .folds })
 
 -- The round with another fold.
-unfoldable pub withFold : Round → ℕ → ℕ → Round
+abbrev pub withFold : Round → ℕ → ℕ → Round
 withFold r place street = withPlay r (record { raises = r .play .raises; folds = set (r .play .folds) place street })
 
--- The letters are c for a card, f for the fresh round, h for a fold, p for the parts, r for a raise, t for the table, w for a wager.
+-- The letters: c a card, f the fresh round, h a fold, p the parts, r a raise, t the table, w a wager; any other changes nothing.
 unfoldable pub changed : Round → ℕ → ℕ → ℕ → ℕ → Round
 changed r letter a b c =
     if eqb letter 99 then withCard r a b

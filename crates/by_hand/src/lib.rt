@@ -125,7 +125,7 @@ fn with_fold(round: Round, place: u8, street: u8) -> Round
     next
 }
 
-// What a letter and its numbers make of a round; with any other letter it is left as it is.
+// What a letter and its numbers make of a round. Numbers that the letter does not ask for play no part.
 pub fn changed(round: Round, letter: u8, a: u8, b: u8, c: u8) -> Round
     ensures { λ r. ⌜ r ≡ changed round letter a b c ⌝ }
 {

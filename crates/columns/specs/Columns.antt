@@ -11,7 +11,7 @@ use Rattle.records.specs.Bytes.{byte, between}
 unfoldable pub digitAt : List ℕ → ℕ → ℕ
 digitAt line place = if between 48 57 (byte line place) then byte line place - 48 else 0
 
--- The number in column k is the column's last three characters, read as a byte.
+-- The number in column k is what its last three characters are as digits, modulo 256.
 unfoldable pub numberAt : List ℕ → ℕ → ℕ
 numberAt line k = (100 * digitAt line (4 * k + 1) + 10 * digitAt line (4 * k + 2) + digitAt line (4 * k + 3)) % 256
 

@@ -1,14 +1,16 @@
 // Feeds a round with records, written as lines of numbers, and prints each line with its answer.
 //
 // A line is columns of four characters, each a blank and a number. Where the first character is a blank, the numbers are the bytes of a record, with
-// zeros up to 16; where it is '!' they are all of them. 'fresh' begins a new round. The other letters change the held round by hand, as no record can:
-// 't P V' puts V at place P of the table's six numbers, 'w L P V' at place P of the antes (L 0), Board (1), Pocket (2) or Lo Ball (3) wagers, 'c P V' at
-// place P of the cards, 'p V' makes V the number of parts, 'r P V' puts V at place P of the raises, 'h P V' of the folds. Any other line is only printed.
+// zeros up to 16; where it is '!' they are all of them, at most 21. 'fresh' begins a new round. The other letters change the held round by hand, as no
+// record can: 't P V' puts V at place P of the table's six numbers, 'w L P V' at place P of the antes (L 0), Board (1), Pocket (2) or Lo Ball (3)
+// wagers, 'c P V' at place P of the cards, 'p V' makes V the number of parts, 'r P V' puts V at place P of the raises, 'h P V' of the folds. Any other
+// line is only printed. At most 65,536 bytes are read.
 //
 // The file stdin beside src/ has the cases, and stdout what this must print: worked out by hand from the rule sheet, not by this
 // code. Every function here is proved safe and ending; what the program prints is tested and not proved.
 use by_hand::changed;
 use columns::line_end;
+use columns::number_at;
 use columns::numbers_of;
 use libc::STDIN_FILENO;
 use libc::STDOUT_FILENO;
@@ -37,11 +39,12 @@ fn fed(round: Round, bytes: &[u8]) -> Round {
     let step = held::take(round, bytes);
     let answer = step.answer;
     print_answer(answer);
-    let next = step.round;
-    next
+    step.round
 }
 
-fn fed_first(round: Round, numbers: [u8; 21], n: usize) -> Round {
+// More than 21 numbers are not fed.
+fn fed_first(round: Round, line: &[u8], n: usize) -> Round {
+    let numbers = numbers_of(line);
     if n <= 21 {
         return fed(round, &numbers[0..n]);
     }
@@ -50,14 +53,24 @@ fn fed_first(round: Round, numbers: [u8; 21], n: usize) -> Round {
 
 fn after_line(round: Round, line: &[u8]) -> Round {
     let first = byte_at(line, 0);
-    let numbers = numbers_of(line);
     if first == 32 {
-        return fed_first(round, numbers, 16);
+        return fed_first(round, line, 16);
     }
     if first == 33 {
-        return fed_first(round, numbers, line.len() / 4);
+        return fed_first(round, line, line.len() / 4);
     }
-    changed(round, first, numbers[0], numbers[1], numbers[2])
+    let a = number_at(line, 0);
+    let b = number_at(line, 1);
+    let c = number_at(line, 2);
+    changed(round, first, a, b, c)
+}
+
+// Prints the line as it is, then its answer.
+fn feed_line(round: Round, line: &[u8]) -> Round {
+    io::write_all(STDOUT_FILENO, line);
+    let next = after_line(round, line);
+    io::write_all(STDOUT_FILENO, b"\n");
+    next
 }
 
 fn feed_lines(text: &[u8]) {
@@ -65,11 +78,8 @@ fn feed_lines(text: &[u8]) {
     let mut at = 0;
     while at < text.len() {
         let end = line_end(text, at);
-        let line = &text[at..end];
-        io::write_all(STDOUT_FILENO, line);
-        let next = after_line(round, line);
+        let next = feed_line(round, &text[at..end]);
         round = next;
-        io::write_all(STDOUT_FILENO, b"\n");
         at = end + 1;
     }
 }

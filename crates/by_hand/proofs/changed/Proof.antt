@@ -57,7 +57,16 @@ returns-8 : tie.Need-returns-8
 unfolding changed
 returns-8 c =
     let n = c .match .rest in
-    simp (ne-eqb _ _ (n .1), ne-eqb _ _ (n .0 .1), ne-eqb _ _ (n .0 .0 .1), ne-eqb _ _ (n .0 .0 .0 .1), ne-eqb _ _ (n .0 .0 .0 .0 .1), ne-eqb _ _ (n .0 .0 .0 .0 .0 .1), ne-eqb _ _ (n .0 .0 .0 .0 .0 .0 .1))
+    let m = n .0 .0 .0 in
+    simp (
+      ne-eqb _ _ (n .1),
+      ne-eqb _ _ (n .0 .1),
+      ne-eqb _ _ (n .0 .0 .1),
+      ne-eqb _ _ (m .1),
+      ne-eqb _ _ (m .0 .1),
+      ne-eqb _ _ (m .0 .0 .1),
+      ne-eqb _ _ (m .0 .0 .0 .1),
+    )
 
 pub changed-spec : {M : Type 1} → statement M
 changed-spec =

@@ -1,4 +1,3 @@
-use Rattle.by_hand.specs.Changes.{withCard}
 use borrow.Author.Needs.{needs}
 use Rattle.by_hand.proofs.with_card.Statement.{statement}
 use Rattle.by_hand.proofs.with_card.Tie as tie
@@ -7,7 +6,6 @@ put52-requires : tie.Need-put52-requires
 put52-requires c κs = search needs
 
 returns : tie.Need-returns
-unfolding withCard
 returns c = simp (c .put52 .ensures)
 
 pub with-card-spec : {M : Type 1} → statement M

@@ -1,4 +1,3 @@
-use Rattle.by_hand.specs.Changes.{withFold}
 use borrow.Author.Needs.{needs}
 use Rattle.by_hand.proofs.with_fold.Statement.{statement}
 use Rattle.by_hand.proofs.with_fold.Tie as tie
@@ -7,7 +6,6 @@ put-byte7-requires : tie.Need-put-byte7-requires
 put-byte7-requires c κs = search needs
 
 returns : tie.Need-returns
-unfolding withFold
 returns c = simp (c .put-byte7 .ensures)
 
 pub with-fold-spec : {M : Type 1} → statement M

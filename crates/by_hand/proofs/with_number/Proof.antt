@@ -1,4 +1,3 @@
-use Rattle.by_hand.specs.Changes.{withNumber}
 use borrow.Author.Needs.{needs}
 use Rattle.by_hand.proofs.with_number.Statement.{statement}
 use Rattle.by_hand.proofs.with_number.Tie as tie
@@ -22,8 +21,16 @@ chosen-requires-6 : tie.Need-chosen-requires-6
 chosen-requires-6 c κs = search needs
 
 returns : tie.Need-returns
-unfolding withNumber
-returns c = simp (c .chosen6 .ensures, c .before .chosen5 .ensures, c .before .before .chosen4 .ensures, c .before .before .before .chosen3 .ensures, c .before .before .before .before .chosen2 .ensures, c .before .before .before .before .before .chosen .ensures)
+returns c =
+    let p = c .before .before .before in
+    simp (
+      c .chosen6 .ensures,
+      c .before .chosen5 .ensures,
+      c .before .before .chosen4 .ensures,
+      p .chosen3 .ensures,
+      p .before .chosen2 .ensures,
+      p .before .before .chosen .ensures,
+    )
 
 pub with-number-spec : {M : Type 1} → statement M
 with-number-spec =

@@ -1,4 +1,3 @@
-use Rattle.by_hand.specs.Changes.{withRaise}
 use borrow.Author.Needs.{needs}
 use Rattle.by_hand.proofs.with_raise.Statement.{statement}
 use Rattle.by_hand.proofs.with_raise.Tie as tie
@@ -7,7 +6,6 @@ put21-requires : tie.Need-put21-requires
 put21-requires c κs = search needs
 
 returns : tie.Need-returns
-unfolding withRaise
 returns c = simp (c .put21 .ensures)
 
 pub with-raise-spec : {M : Type 1} → statement M

@@ -1,4 +1,3 @@
-use Rattle.by_hand.specs.Changes.{withWager}
 use borrow.Author.Needs.{needs}
 use Rattle.by_hand.proofs.with_wager.Statement.{statement}
 use Rattle.by_hand.proofs.with_wager.Tie as tie
@@ -7,7 +6,6 @@ wagers-with-requires : tie.Need-wagers-with-requires
 wagers-with-requires c κs = search needs
 
 returns : tie.Need-returns
-unfolding withWager
 returns c = simp (c .wagers-with .ensures)
 
 pub with-wager-spec : {M : Type 1} → statement M

@@ -33,10 +33,10 @@ loop-less c = search needs
 
 loop-again : tie.Need-loop-again Inv-loop μ-loop
 loop-again c =
-    let numbers = c .before .before .before .loop .numbers in
-    let k = c .before .before .before .loop .k in
-    let h : k < length numbers = search needs in
-    (search needs, search needs, simp (c .put21 .ensures, c .before .number-at .ensures) (read-more _ numbers k h (c .before .before .before .loop .inv .2)))
+    let p = c .before .before .before .loop in
+    let h : p .k < length (p .numbers) = search needs in
+    let more = read-more _ (p .numbers) (p .k) h (p .inv .2) in
+    (search needs, search needs, simp (c .put21 .ensures, c .before .number-at .ensures) more)
 
 returns : tie.Need-returns Inv-loop μ-loop
 returns c = λ j h. c .before .loop .inv .2 j (omega arith)

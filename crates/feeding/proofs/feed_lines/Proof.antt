@@ -6,10 +6,10 @@ use Rattle.feeding.proofs.feed_lines.Statement.{statement}
 use Rattle.feeding.proofs.feed_lines.Tie as tie
 
 abbrev Inv-loop : tie.InvT-loop
-Inv-loop text round₀ at₀ t7 round at = at ≤ length text + 1
+Inv-loop text round₀ at₀ round at = at ≤ length text + 1
 
 abbrev μ-loop : tie.MeasureT-loop
-μ-loop text round₀ at₀ t7 round at = length text + 1 - at
+μ-loop text round₀ at₀ round at = length text + 1 - at
 
 fresh-requires : tie.Need-fresh-requires Inv-loop μ-loop
 fresh-requires c κs = search needs
@@ -20,35 +20,26 @@ loop-holds c = search needs
 line-end-requires : tie.Need-line-end-requires Inv-loop μ-loop
 line-end-requires c κs = search needs
 
-sub-line : tie.Need-sub-line Inv-loop μ-loop
-sub-line c = search needs
+sub-feed-line : tie.Need-sub-feed-line Inv-loop μ-loop
+sub-feed-line c = search needs
 
-part-line-start : tie.Need-part-line-start Inv-loop μ-loop
-part-line-start c = search needs
+part-feed-line-start : tie.Need-part-feed-line-start Inv-loop μ-loop
+part-feed-line-start c = search needs
 
-part-line-end : tie.Need-part-line-end Inv-loop μ-loop
-part-line-end c =
+part-feed-line-end : tie.Need-part-feed-line-end Inv-loop μ-loop
+part-feed-line-end c =
     let text = c .before .before .before .before .before .args .text .now in
     let at = c .before .before .loop .at in
     let h : at ≤ length text = search needs in
     search (needs, line-within text at h)
 
-write-all-requires : tie.Need-write-all-requires Inv-loop μ-loop
-write-all-requires c κs = search needs
-
-after-line-requires : tie.Need-after-line-requires Inv-loop μ-loop
-after-line-requires c κs = search needs
-
-slice-aggregate-write-all : tie.Need-slice-aggregate-write-all Inv-loop μ-loop
-slice-aggregate-write-all c = search needs
-
-write-all-requires-2 : tie.Need-write-all-requires-2 Inv-loop μ-loop
-write-all-requires-2 c κs = search needs
+feed-line-requires : tie.Need-feed-line-requires Inv-loop μ-loop
+feed-line-requires c κs = search needs
 
 add-at : tie.Need-add-at Inv-loop μ-loop
 add-at c =
-    let text = c .before .before .before .before .before .before .before .before .before .before .args .text .now in
-    let at = c .before .before .before .before .before .before .before .loop .at in
+    let text = c .before .before .before .before .before .before .before .args .text .now in
+    let at = c .before .before .before .before .loop .at in
     let h : at ≤ length text = search needs in
     search (needs, line-within text at h)
 
@@ -57,8 +48,8 @@ loop-less c = search needs
 
 loop-again : tie.Need-loop-again Inv-loop μ-loop
 loop-again c =
-    let text = c .before .before .before .before .before .before .before .before .before .before .args .text .now in
-    let at = c .before .before .before .before .before .before .before .loop .at in
+    let text = c .before .before .before .before .before .before .before .args .text .now in
+    let at = c .before .before .before .before .loop .at in
     let h : at ≤ length text = search needs in
     search (needs, line-within text at h)
 
@@ -74,13 +65,10 @@ feed-lines-spec =
     fresh-requires
     loop-holds
     line-end-requires
-    sub-line
-    part-line-start
-    part-line-end
-    write-all-requires
-    after-line-requires
-    slice-aggregate-write-all
-    write-all-requires-2
+    sub-feed-line
+    part-feed-line-start
+    part-feed-line-end
+    feed-line-requires
     add-at
     loop-less
     loop-again

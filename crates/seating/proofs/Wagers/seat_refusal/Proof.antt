@@ -1,4 +1,4 @@
-use mathlib.Core.Path.{sym, _∙_}
+use mathlib.Core.Path.{refl, sym, _∙_}
 use borrow.Author.Tests.{not-true, not-false}
 use Rattle.seating.specs.Seat.{seatRefusal}
 use borrow.Author.Needs.{needs}
@@ -18,10 +18,10 @@ seat-rises-requires c κs = search needs
 returns-2 : tie.Need-returns-2
 unfolding seatRefusal
 returns-2 c =
-    simp (
+    rw (
       sym (c .before .before .before .is-zero-from .ensures) ∙ not-false _ (c .before .before .if1 .left),
       sym (c .before .seat-rises .ensures) ∙ not-true _ (c .if2 .taken),
-    )
+    ) refl
 
 takes-ante-requires : tie.Need-takes-ante-requires
 takes-ante-requires c κs = search needs
@@ -29,11 +29,11 @@ takes-ante-requires c κs = search needs
 returns-3 : tie.Need-returns-3
 unfolding seatRefusal
 returns-3 c =
-    simp (
+    rw (
       sym (c .before .before .before .before .before .is-zero-from .ensures) ∙ not-false _ (c .before .before .before .before .if1 .left),
       sym (c .before .before .before .seat-rises .ensures) ∙ not-false _ (c .before .before .if2 .left),
       sym (c .before .takes-ante .ensures) ∙ not-true _ (c .if3 .taken),
-    )
+    ) refl
 
 takes-sides-requires : tie.Need-takes-sides-requires
 takes-sides-requires c κs = search needs
@@ -41,22 +41,22 @@ takes-sides-requires c κs = search needs
 returns-4 : tie.Need-returns-4
 unfolding seatRefusal
 returns-4 c =
-    simp (
+    rw (
       sym (c .before .before .before .before .before .before .before .is-zero-from .ensures) ∙ not-false _ (c .before .before .before .before .before .before .if1 .left),
       sym (c .before .before .before .before .before .seat-rises .ensures) ∙ not-false _ (c .before .before .before .before .if2 .left),
       sym (c .before .before .before .takes-ante .ensures) ∙ not-false _ (c .before .before .if3 .left),
       sym (c .before .takes-sides .ensures) ∙ not-true _ (c .if4 .taken),
-    )
+    ) refl
 
 returns-5 : tie.Need-returns-5
 unfolding seatRefusal
 returns-5 c =
-    simp (
+    rw (
       sym (c .before .before .before .before .before .before .before .is-zero-from .ensures) ∙ not-false _ (c .before .before .before .before .before .before .if1 .left),
       sym (c .before .before .before .before .before .seat-rises .ensures) ∙ not-false _ (c .before .before .before .before .if2 .left),
       sym (c .before .before .before .takes-ante .ensures) ∙ not-false _ (c .before .before .if3 .left),
       sym (c .before .takes-sides .ensures) ∙ not-false _ (c .if4 .left),
-    )
+    ) refl
 
 pub seat-refusal-spec : {M : Type 1} → statement M
 seat-refusal-spec =
