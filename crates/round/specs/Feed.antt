@@ -21,7 +21,7 @@ use Rattle.round.specs.declared.Answer.the-variants.{Next, Finished, Ref
 use Rattle.round.specs.declared.Step.{Step}
 use Rattle.round.specs.Order.{isFinished, mayCome}
 
--- the refusal of what the record says, by its kind
+-- the refusal of what the record says, by its kind, which is 1 to 4 where the record may come
 unfoldable pub kindRefusal : Round → List ℕ → ℕ
 kindRefusal r b =
     if eqb (byte b 0) 1 then tableRefusal b
