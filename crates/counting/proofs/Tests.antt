@@ -5,7 +5,7 @@ use mathlib.Core.Path.{_≡_, refl}
 use mathlib.Core.Bool.{Bool, true, false, not, _&&_, _||_, or-true}
 use native.Mathlib.Omega.{arith}
 use lib.Dec.{eqb}
-use borrow.Author.Tests.{eqb-false, ne-eqb, not-true}
+use borrow.Author.Tests.{eqb-false, ne-eqb, not-true, not-false}
 use Rattle.counting.specs.Choose.{if_then_else_, one}
 
 -- no test holds and fails
@@ -71,9 +71,12 @@ not-zero a h = let n : (a ≡ 0 → ⊥) = λ z. omega arith in simp (ne-eqb a 0
 
 -- ---- refusals in order: there is none exactly where each test on the way passes
 
+pub unchosen : (t : Bool) (n rest : ℕ) → _≡_ {A = ℕ} (if t then suc n else rest) 0 → (t ≡ false) × (rest ≡ 0)
+unchosen true n rest e = absurd (omega arith)
+unchosen false n rest e = (refl, e)
+
 pub passed : (t : Bool) (n rest : ℕ) → _≡_ {A = ℕ} (if not t then suc n else rest) 0 → (t ≡ true) × (rest ≡ 0)
-passed true n rest e = (refl, e)
-passed false n rest e = absurd (omega arith)
+passed t n rest e = let none = unchosen (not t) n rest e in (not-false t (none .0), none .1)
 
 pub pass : (t : Bool) (n rest : ℕ) → t ≡ true → rest ≡ 0 → _≡_ {A = ℕ} (if not t then n else rest) 0
 pass t n rest p q = simp (p, q)

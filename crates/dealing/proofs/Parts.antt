@@ -11,7 +11,7 @@ use lib.Seq.{sets, sets-eq, length-slice, length-sets, length-take-le, drop-at, 
 use borrow.Author.Tests.{eqb-true, eq-eqb, leb-true, le-leb, lt-ltb, not-true}
 use Rattle.counting.specs.Choose.{if_then_else_}
 use Rattle.counting.specs.Count.{everyOf, someBelow}
-use Rattle.counting.proofs.Tests.{and-true, passed}
+use Rattle.counting.proofs.Tests.{and-true, unchosen, passed}
 use Rattle.counting.proofs.Lists.{everyOf-drop}
 use Rattle.cards.specs.Deck.{repeats, faulty, wholeDeck}
 use Rattle.records.specs.Bytes.{byte, zeroFrom}
@@ -25,16 +25,12 @@ pub record AllowedPart (d : Deck) (b : List ℕ) : Type 0 where
   pub part : byte b 1 ≡ d .parts
   pub cards : faulty (dealt (withPart d b)) ≡ false
 
-fails : (t : Bool) → _≡_ {A = ℕ} (if t then 11 else 0) 0 → t ≡ false
-fails true e = absurd (omega arith)
-fails false e = refl
-
 pub part-accepted : (d : Deck) (b : List ℕ) → partRefusal d b ≡ 0 → AllowedPart d b
 unfolding partRefusal
 part-accepted d b e =
     let p = passed _ 3 _ e in
     let q = passed _ 9 _ (p .1) in
-    record { zeros = p .0; part = eqb-true _ _ (q .0); cards = fails _ (q .1) }
+    record { zeros = p .0; part = eqb-true _ _ (q .0); cards = unchosen (faulty (dealt (withPart d b))) 10 0 (q .1) .0 }
 
 -- ---- the deck with one more part
 

@@ -17,10 +17,10 @@ use Rattle.dealing.specs.Part.{partRefusal, withPart}
 use Rattle.choosing.specs.Streets.{streetsOver}
 use Rattle.choosing.specs.Choice.{choiceRefusal, withChoice}
 use Rattle.round.specs.declared.Round.{Round}
-use Rattle.round.specs.declared.Answer.the-variants.{Next, Finished}
 use Rattle.round.specs.declared.Step.{Step}
-use Rattle.round.specs.Order.{isDealt, isPlaying, isFinished, mayCome}
-use Rattle.round.specs.Feed.{kindRefusal, refusal, withTable, withWagers, withDeck, withPlay, next, refused, accepted, feed}
+use Rattle.round.specs.Order.{isDealt, isPlaying, mayCome}
+use Rattle.round.specs.Feed.{kindRefusal, refusal, withTable, withWagers, withDeck, withPlay, next, accepted, feed, numberOf}
+use Rattle.round.proofs.Numbers.{feed-number}
 use Rattle.led.specs.Led.{isTaken}
 
 -- what an accepted record b makes of the round r
@@ -35,10 +35,6 @@ pub data Took (r : Round) (b : List ℕ) : Round → Type 0 where
 
 -- ---- accepted: no refusal, and the next round
 
-on-or-finished : (t : Bool) → isTaken (if t then Finished else Next) ≡ true
-on-or-finished true = refl
-on-or-finished false = refl
-
 -- a record is taken exactly where it has no refusal
 module _ (r : Round) (b : List ℕ) where
   fed : refusal r b ≡ 0 → feed r b ≡ accepted (next r b)
@@ -46,16 +42,10 @@ module _ (r : Round) (b : List ℕ) where
   fed e = simp (eq-eqb (refusal r b) 0 e)
 
   taken-none : isTaken (feed r b .answer) ≡ true → refusal r b ≡ 0
-  unfolding feed
-  taken-none a = go (eqb (refusal r b) 0) refl a
-    where
-      go : (t : Bool) → eqb (refusal r b) 0 ≡ t
-          → isTaken ((if not t then refused (refusal r b) r else accepted (next r b)) .answer) ≡ true → refusal r b ≡ 0
-      go true e a = eqb-true (refusal r b) 0 e
-      go false e a = clash false a refl
+  taken-none a = sym (feed-number r b) ∙ eqb-true (numberOf (feed r b .answer)) 0 a
 
   pub none-taken : refusal r b ≡ 0 → isTaken (feed r b .answer) ≡ true
-  none-taken e = ap (λ (s : Step). isTaken (s .answer)) (fed e) ∙ on-or-finished (isFinished (next r b))
+  none-taken e = eq-eqb (numberOf (feed r b .answer)) 0 (feed-number r b ∙ e)
 
   pub none-next : refusal r b ≡ 0 → feed r b .round ≡ next r b
   none-next e = ap (λ (s : Step). s .round) (fed e)

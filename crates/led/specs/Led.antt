@@ -2,20 +2,18 @@
 -- Assumes nothing.
 use Prim.Native.Nat.{ℕ}
 use mathlib.Core.Path.{_≡_}
-use mathlib.Core.Bool.{Bool, true, false}
+use mathlib.Core.Bool.{Bool, true}
 use mathlib.Core.List.{List, [], _∷_}
+use lib.Dec.{eqb}
 use Rattle.records.specs.Bytes.{areBytes}
 use Rattle.round.specs.declared.Round.{Round}
 use Rattle.round.specs.declared.Answer.{Answer}
-use Rattle.round.specs.declared.Answer.the-variants.{Next, Finished, Refused}
 use Rattle.round.specs.Order.{freshRound}
-use Rattle.round.specs.Feed.{feed}
+use Rattle.round.specs.Feed.{feed, numberOf}
 
--- the answer takes the record
+-- the answer takes the record: its number is no refusal's
 abbrev pub isTaken : Answer → Bool
-isTaken Next = true
-isTaken Finished = true
-isTaken (Refused number) = false
+isTaken answer = eqb (numberOf answer) 0
 
 -- the records, bytes each, are accepted one after the other and lead from the first round to the second
 pub data Leads : Round → List (List ℕ) → Round → Type 0 where

@@ -1,6 +1,6 @@
 use Prim.Native.Nat.{_≤_, _-_}
-use mathlib.Core.Path.{_≡_, sym}
-use mathlib.Core.Bool.{true}
+use mathlib.Core.Path.{_≡_, sym, ap}
+use mathlib.Core.Bool.{true, false, not}
 use Rattle.counting.specs.Count.{everyBelow}
 use Rattle.counting.proofs.Ranges.{every-none, every-more, every-done, every-broken}
 use Rattle.seating.specs.Seat.{isAbove, isLower}
@@ -28,7 +28,10 @@ add-if1 c = search needs
 
 returns : tie.Need-returns Inv-loop μ-loop
 unfolding isAbove
-returns c = sym (every-broken (isLower (c .before .before .before .args .t1) (c .before .before .before .args .seat)) 7 (c .before .before .loop .k) (c .before .loop-test .taken) (simp (c .if1 .taken)))
+returns c =
+    let lower = isLower (c .before .before .before .args .t1) (c .before .before .before .args .seat) in
+    let not-lower : lower (c .before .before .loop .k) ≡ false = ap not (c .if1 .taken) in
+    sym (every-broken lower 7 (c .before .before .loop .k) (c .before .loop-test .taken) not-lower)
 
 add-k : tie.Need-add-k Inv-loop μ-loop
 add-k c = search needs
@@ -37,7 +40,10 @@ loop-less : tie.Need-loop-less Inv-loop μ-loop
 loop-less c = search needs
 
 loop-again : tie.Need-loop-again Inv-loop μ-loop
-loop-again c = (search needs, every-more (isLower (c .before .before .before .args .t1) (c .before .before .before .args .seat)) (c .before .before .loop .k) (c .before .before .loop .inv .1) (simp (c .if1 .left)))
+loop-again c =
+    let lower = isLower (c .before .before .before .args .t1) (c .before .before .before .args .seat) in
+    let is-lower : lower (c .before .before .loop .k) ≡ true = ap not (c .if1 .left) in
+    (search needs, every-more lower (c .before .before .loop .k) (c .before .before .loop .inv .1) is-lower)
 
 returns-2 : tie.Need-returns-2 Inv-loop μ-loop
 unfolding isAbove

@@ -1,5 +1,7 @@
-use mathlib.Core.Path.{refl, sym, _∙_}
+use mathlib.Core.Path.{_≡_, refl, sym, _∙_}
+use mathlib.Core.Bool.{false}
 use borrow.Author.Tests.{not-true, not-false}
+use Rattle.records.specs.Bytes.{zeroFrom}
 use Rattle.seating.specs.Seat.{seatRefusal}
 use borrow.Author.Needs.{needs}
 use Rattle.seating.proofs.Wagers.seat_refusal.Statement.{statement}
@@ -10,7 +12,10 @@ is-zero-from-requires c κs = search needs
 
 returns : tie.Need-returns
 unfolding seatRefusal
-returns c = simp (sym (c .before .is-zero-from .ensures) ∙ not-true _ (c .if1 .taken))
+returns c =
+    let b = c .before .before .before .before .args .bytes .now in
+    let zeros : zeroFrom 10 b ≡ false = sym (c .before .is-zero-from .ensures) ∙ not-true _ (c .if1 .taken) in
+    rw zeros refl
 
 seat-rises-requires : tie.Need-seat-rises-requires
 seat-rises-requires c κs = search needs
