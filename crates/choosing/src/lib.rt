@@ -15,7 +15,7 @@ use records::is_zero_from;
 use records::place_of;
 ghost use mathlib.Core.Path.{_≡_};
 ghost use Prim.Native.Nat.{_<_};
-ghost use Rattle.choosing.specs.Streets.{raiseOn, foldOf, hasToChoose, isOpen, streetsOver};
+ghost use Rattle.choosing.specs.Streets.{raiseOn, foldOf, stillIn, hasToChoose, isOpen, streetsOver};
 ghost use Rattle.choosing.specs.Choice.{standingRefusal, choiceRefusal, chosen, withChoice};
 ghost use Rattle.choosing.specs.Slots.{foldFits, raiseFits, slotAt, streetFits, playFits};
 
@@ -43,7 +43,8 @@ fn raise_fits(opened: u8, s: u8, ante: u16, fold: u8, raise: u8) -> bool
 }
 
 impl Play {
-    fn raise_on(self, s: u8, k: u8) -> u8
+    // By how many antes the seat at place `k` raised on street `s`.
+    pub fn raise_on(self, s: u8, k: u8) -> u8
         ensures { λ r. ⌜ r ≡ raiseOn self s k ⌝ }
     {
         let raises = self.raises;
@@ -57,11 +58,18 @@ impl Play {
         byte_at7(folds, k as usize)
     }
 
+    // The seat at place `k` plays and hasn't folded.
+    pub fn is_in(self, antes: [u16; 7], k: u8) -> bool
+        ensures { λ r. ⌜ r ≡ stillIn antes self k ⌝ }
+    {
+        (at7(antes, k as usize) != 0) & (self.fold_of(k) == 0)
+    }
+
     // The seat at place `k` is still in and hasn't chosen on street `s`.
     fn has_to_choose(self, antes: [u16; 7], s: u8, k: u8) -> bool
         ensures { λ r. ⌜ r ≡ hasToChoose antes self s k ⌝ }
     {
-        ((at7(antes, k as usize) != 0) & (self.fold_of(k) == 0)) & (self.raise_on(s, k) == 0)
+        self.is_in(antes, k) & (self.raise_on(s, k) == 0)
     }
 
     // Some seat has still to choose on street `s`.

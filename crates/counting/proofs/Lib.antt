@@ -7,3 +7,4 @@ pub mod Firsts
 pub mod Sums
 pub mod Orders
 pub mod Once
+pub mod Gathers

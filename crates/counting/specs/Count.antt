@@ -1,8 +1,8 @@
--- Tests and sums over the numbers below n, and over the numbers of a list.
+-- Tests and sums over the numbers below n, and over the numbers of a list; lists made of what a function gives.
 -- Assumes nothing.
 use Prim.Native.Nat.{ℕ, zero, suc, _+_}
 use mathlib.Core.Bool.{Bool, true, false, _&&_, _||_}
-use mathlib.Core.List.{List, [], _∷_}
+use mathlib.Core.List.{List, [], _∷_, _++_}
 use Rattle.counting.specs.Choose.{one}
 
 -- how many of the numbers below n pass the test
@@ -39,3 +39,12 @@ everyOf f (x ∷ xs) = f x && everyOf f xs
 unfoldable pub total : List ℕ → ℕ
 total [] = 0
 total (x ∷ xs) = x + total xs
+
+-- what f gives at the numbers below n, one list after the other
+unfoldable pub gather : {A : Type 0} → ℕ → (ℕ → List A) → List A
+gather zero f = []
+gather (suc n) f = gather n f ++ f n
+
+-- what g gives at the numbers below n, in their order
+abbrev pub each : ℕ → (ℕ → ℕ) → List ℕ
+each n g = gather n (λ k. g k ∷ [])

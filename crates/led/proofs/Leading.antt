@@ -11,7 +11,7 @@ use Rattle.round.specs.declared.Round.{Round}
 use Rattle.round.specs.Feed.{refusal, next}
 use Rattle.led.specs.Led.{Leads}
 use Rattle.led.specs.Led.Leads.{done, then}
-use Rattle.led.specs.Records.{gather}
+use Rattle.counting.specs.Count.{gather}
 use Rattle.led.proofs.Took.{none-taken, none-next}
 
 pub join : {r q s : Round} {l m : List (List ℕ)} → Leads r l q → Leads q m s → Leads r (l ++ m) s

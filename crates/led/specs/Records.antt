@@ -1,10 +1,10 @@
 -- The records of a held round, as a file has them: its table, its seats, its deck parts, then its choices by street and by rising seat.
 -- Assumes nothing.
-use Prim.Native.Nat.{ℕ, zero, suc, _+_}
+use Prim.Native.Nat.{ℕ, _+_}
 use mathlib.Core.Bool.{Bool}
 use mathlib.Core.List.{List, [], _∷_, _++_}
 use Rattle.counting.specs.Choose.{if_then_else_, one}
-use Rattle.counting.specs.Count.{tally}
+use Rattle.counting.specs.Count.{tally, gather}
 use Rattle.records.specs.Seats.{plays}
 use Rattle.seating.specs.Table.{hasTable, tableRecord}
 use Rattle.seating.specs.Seat.{seatRecord}
@@ -16,11 +16,6 @@ use Rattle.round.specs.declared.Round.{Round}
 -- one record where the test holds, else none
 abbrev pub only : Bool → List ℕ → List (List ℕ)
 only t b = if t then b ∷ [] else []
-
--- what f gives at the numbers below n, in their order
-unfoldable pub gather : ℕ → (ℕ → List (List ℕ)) → List (List ℕ)
-gather zero f = []
-gather (suc n) f = gather n f ++ f n
 
 abbrev pub tableRecords : Round → List (List ℕ)
 tableRecords r = only (hasTable (r .table)) (tableRecord (r .table))

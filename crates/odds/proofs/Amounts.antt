@@ -5,7 +5,8 @@ use Prim.Native.Nat.{ℕ, _+_, _*_, _<_}
 use mathlib.Core.Path.{_≡_, refl}
 use native.Mathlib.Omega.{arith}
 use native.Mathlib.Nat.{add-mul}
-use Rattle.odds.specs.declared.Pay.the-variants.{To, ThreeToTwo, Push, Loss}
+use Rattle.odds.specs.declared.Pay.{Pay}
+use Rattle.odds.specs.declared.Pay.the-variants.{To, ThreeToTwo, Push, Loss, NoTable}
 use Rattle.odds.specs.Amounts.{handedBack}
 
 pub win-back : (odds wager : ℕ) → handedBack (To odds) wager ≡ 100 * ((odds + 1) * wager)
@@ -22,3 +23,11 @@ loss-back wager = refl
 
 pub push-is-no-loss : (wager : ℕ) → 0 < wager → handedBack Loss wager < handedBack Push wager
 push-is-no-loss wager placed = omega arith
+
+-- nothing wagered, nothing handed back
+pub nothing-back : (pay : Pay) → handedBack pay 0 ≡ 0
+nothing-back (To odds) = omega arith
+nothing-back ThreeToTwo = refl
+nothing-back Push = refl
+nothing-back Loss = refl
+nothing-back NoTable = refl

@@ -1,6 +1,6 @@
 -- What is handed back, in cents, of a wager in dollars; and which odds are above 50.
 -- Assumes nothing.
-use Prim.Native.Nat.{ℕ, _+_, _*_}
+use Prim.Native.Nat.{ℕ, _+_, _*_, _/_}
 use mathlib.Core.Bool.{Bool, false}
 use lib.Dec.{ltb}
 use Rattle.odds.specs.declared.Pay.{Pay}
@@ -13,6 +13,14 @@ handedBack ThreeToTwo wager = 100 * wager + 150 * wager
 handedBack Push wager = 100 * wager
 handedBack Loss wager = 0
 handedBack NoTable wager = 0
+
+-- The win without the wager, odds × wager, in dollars. It is asked of odds above 50; 3 to 2 of an odd wager is no whole dollar.
+abbrev pub winAt : Pay → ℕ → ℕ
+winAt (To odds) wager = odds * wager
+winAt ThreeToTwo wager = 3 * wager / 2
+winAt Push wager = 0
+winAt Loss wager = 0
+winAt NoTable wager = 0
 
 -- the odds are above 50
 abbrev pub aboveFifty : Pay → Bool

@@ -9,7 +9,7 @@
 ghost use mathlib.Core.Path.{_≡_};
 ghost use mathlib.Core.Bool.{_&&_};
 ghost use mathlib.Core.List.{map};
-ghost use Prim.Native.Nat.{_+_, _*_, _-_};
+ghost use Prim.Native.Nat.{_+_, _*_, _-_, _/_};
 ghost use lib.Dec.{leb};
 ghost use Rattle.counting.specs.Choose.{if_then_else_};
 ghost use Rattle.names.specs.Five.{fivePlace};
@@ -17,7 +17,7 @@ ghost use Rattle.names.specs.Board.{boardPlace};
 ghost use Rattle.names.specs.Pocket.{pocketPlace};
 ghost use Rattle.odds.specs.Pays.{payIn, loPlace, basePay, loPay, boardPay, pocketPay};
 ghost use Rattle.odds.specs.Numbers.{saidBy};
-ghost use Rattle.odds.specs.Amounts.{handedBack, aboveFifty};
+ghost use Rattle.odds.specs.Amounts.{handedBack, winAt, aboveFifty};
 use names::BoardName;
 use names::FiveName;
 use names::LoName;
@@ -224,6 +224,25 @@ pub fn handed_back(pay: Pay, wager: u32) -> u64
         Pay::To(odds) => won(odds, wager),
         Pay::ThreeToTwo => 100 * (wager as u64) + 150 * (wager as u64),
         Pay::Push => 100 * (wager as u64),
+        Pay::Loss => 0,
+        Pay::NoTable => 0,
+    }
+}
+
+fn times(odds: u16, wager: u32) -> u64
+    ensures { λ r. ⌜ r ≡ odds * wager ⌝ }
+{
+    odds as u64 * wager as u64
+}
+
+// The win without the wager, in dollars.
+pub fn win_at(pay: Pay, wager: u32) -> u64
+    ensures { λ r. ⌜ r ≡ winAt pay wager ⌝ }
+{
+    match pay {
+        Pay::To(odds) => times(odds, wager),
+        Pay::ThreeToTwo => 3 * (wager as u64) / 2,
+        Pay::Push => 0,
         Pay::Loss => 0,
         Pay::NoTable => 0,
     }

@@ -13,7 +13,7 @@ use seating::table_of;
 use seating::table_refusal;
 ghost use mathlib.Core.Path.{_≡_};
 ghost use Rattle.round.specs.Order.{freshRound, isPlaying, isFinished, mayCome};
-ghost use Rattle.round.specs.Feed.{kindRefusal, refusal, next, refused, accepted, feed};
+ghost use Rattle.round.specs.Feed.{kindRefusal, refusal, next, refused, accepted, feed, numberOf};
 
 pub struct Round {
     pub table: Table,
@@ -33,6 +33,17 @@ pub enum Answer {
 pub struct Step {
     pub answer: Answer,
     pub round: Round,
+}
+
+// This paper's number of an answer: the refusal's, and 0 where the record was taken.
+pub fn number_of(answer: Answer) -> u8
+    ensures { λ r. ⌜ r ≡ numberOf answer ⌝ }
+{
+    match answer {
+        Answer::Next => 0,
+        Answer::Finished => 0,
+        Answer::Refused(number) => number,
+    }
 }
 
 impl Round {

@@ -1,0 +1,49 @@
+use mathlib.Core.Path.{sym, _∙_}
+use Rattle.odds.proofs.Amounts.{nothing-back}
+use Rattle.amounts.specs.Sides.{pocketAmount}
+use borrow.Author.Needs.{needs}
+use Rattle.amounts.proofs.pocket_amount.Statement.{statement}
+use Rattle.amounts.proofs.pocket_amount.Tie as tie
+
+at7-requires : tie.Need-at7-requires
+at7-requires c κs = search needs
+
+returns : tie.Need-returns
+unfolding pocketAmount
+returns c = rw (sym (c .before .at7 .ensures) ∙ c .if1 .taken, nothing-back)
+
+hole-of-requires : tie.Need-hole-of-requires
+hole-of-requires c κs = search needs
+
+slice-aggregate-pocket-of : tie.Need-slice-aggregate-pocket-of
+slice-aggregate-pocket-of c = search needs
+
+pocket-of-requires : tie.Need-pocket-of-requires
+pocket-of-requires c κs = search needs
+
+pocket-pay-requires : tie.Need-pocket-pay-requires
+pocket-pay-requires c κs = search needs
+
+cast-handed-back : tie.Need-cast-handed-back
+cast-handed-back c = search needs
+
+handed-back-requires : tie.Need-handed-back-requires
+handed-back-requires c κs = search needs
+
+returns-2 : tie.Need-returns-2
+unfolding pocketAmount
+returns-2 c = simp (c .handed-back .ensures, c .before .pocket-pay .ensures, c .before .before .pocket-of .ensures, c .before .before .before .before .hole-of .ensures, c .before .before .before .before .before .before .at7 .ensures)
+
+pub pocket-amount-spec : {M : Type 1} → statement M
+pocket-amount-spec =
+    tie.close
+    (tie.spec
+    at7-requires
+    returns
+    hole-of-requires
+    slice-aggregate-pocket-of
+    pocket-of-requires
+    pocket-pay-requires
+    cast-handed-back
+    handed-back-requires
+    returns-2)

@@ -1,0 +1,86 @@
+-- What the entries answer, and what the lent list then holds.
+-- Assumes nothing.
+use Prim.Native.Nat.{ℕ}
+use mathlib.Core.Bool.{not}
+use mathlib.Core.List.{List}
+use lib.Dec.{eqb}
+use lib.ListN.{length}
+use Rattle.counting.specs.Choose.{if_then_else_}
+use Rattle.counting.specs.Count.{total}
+use Rattle.round.specs.declared.Round.{Round}
+use Rattle.round.specs.Order.{isFinished}
+use Rattle.led.specs.Held.{isHeld}
+use Rattle.reading.specs.declared.Reading.{Reading}
+use Rattle.reading.specs.File.{readFile, readPrefix}
+use Rattle.amounts.specs.Base.{wins}
+use Rattle.settlement.specs.declared.Settlement.{Settlement}
+use Rattle.settlement.specs.declared.Settlement.the-variants.{Paid, Refused}
+use Rattle.settlement.specs.declared.FileSettlement.{FileSettlement}
+use Rattle.settlement.specs.declared.FileSettlement.the-variants.{Paid as PaidFile, Refused as RefusedFile}
+use Rattle.settlement.specs.Results.{shares, resultsLong, results}
+
+-- ---- a held round
+
+-- The number of the refusal, 0 where there is none. 17: the held round is neither the fresh one nor led to by accepted records. 1: the results
+-- list isn't 28 long. 16: the round isn't finished. (room: how long the results list is.)
+unfoldable pub settleRefusal : Round → ℕ → ℕ
+settleRefusal r room =
+    if not (isHeld r) then 17
+    else if not (eqb room resultsLong) then 1
+    else if not (isFinished r) then 16
+    else 0
+
+-- refused with its number, or the pool in dollars, full and as paid
+unfoldable pub settleAnswer : Round → ℕ → Settlement
+settleAnswer r room =
+    if not (eqb (settleRefusal r room) 0) then Refused (settleRefusal r room)
+    else Paid (total (wins r)) (total (shares r))
+
+-- A refusal changes no lent list.
+unfoldable pub settleList : Round → List ℕ → List ℕ
+settleList r lent = if not (eqb (settleRefusal r (length lent)) 0) then lent else results r
+
+-- this paper's number for each answer: the refusal's, and 0 where the round is settled
+abbrev pub settleNumber : Settlement → ℕ
+settleNumber (Paid full paid) = 0
+settleNumber (Refused number) = number
+
+-- ---- a file
+
+-- the answer for a round, at a place of a file
+abbrev pub atPlace : ℕ → Settlement → FileSettlement
+atPlace place (Paid full paid) = PaidFile full paid
+atPlace place (Refused number) = RefusedFile number place
+
+-- A file is checked for 1, at place 0, then 2, then record by record; else the held round is settled, and 16 carries the count of
+-- whole records.
+unfoldable pub readAnswer : Reading → ℕ → FileSettlement
+readAnswer w room =
+    if not (eqb room resultsLong) then RefusedFile 1 0
+    else if not (eqb (w .number) 0) then RefusedFile (w .number) (w .place)
+    else atPlace (w .place) (settleAnswer (w .round) room)
+
+unfoldable pub readList : Reading → List ℕ → List ℕ
+readList w lent = if not (eqb (w .number) 0) then lent else settleList (w .round) lent
+
+abbrev pub fileAnswer : List ℕ → ℕ → FileSettlement
+fileAnswer l room = readAnswer (readFile l) room
+
+abbrev pub fileList : List ℕ → List ℕ → List ℕ
+fileList l lent = readList (readFile l) lent
+
+-- the same of a file of which the first bytes are held and the rest is counted
+abbrev pub prefixAnswer : List ℕ → ℕ → ℕ → FileSettlement
+prefixAnswer first after room = readAnswer (readPrefix first after) room
+
+abbrev pub prefixList : List ℕ → ℕ → List ℕ → List ℕ
+prefixList first after lent = readList (readPrefix first after) lent
+
+-- this paper's number and place for each answer
+abbrev pub fileNumber : FileSettlement → ℕ
+fileNumber (PaidFile full paid) = 0
+fileNumber (RefusedFile number place) = number
+
+abbrev pub filePlace : FileSettlement → ℕ
+filePlace (PaidFile full paid) = 0
+filePlace (RefusedFile number place) = place
