@@ -3,15 +3,12 @@
 -- Assumes nothing.
 use Prim.Native.Nat.{ℕ, zero, suc, _+_, _*_, _≤_, _<_}
 use mathlib.Core.Path.{_≡_, refl, sym, ap, _∙_}
-use mathlib.Core.Bool.{Bool, true, false}
-use mathlib.Core.List.{List, [], _∷_, _++_}
+use mathlib.Core.List.{List, [], _∷_, _++_, append-assoc, append-nil}
 use native.Mathlib.Nat.{mul-le-mul-left, mul-add, mul-one}
 use native.Mathlib.Numerals.{add-one}
 use native.Mathlib.Omega.{arith}
-use lib.Dec.{eqb}
-use lib.ListN.{length, getD, set, length-append, length-set, List·getD-append}
-use lib.Seq.{getD-append-add, getD-set-same, getD-set-other, ext-getD}
-use borrow.Author.Tests.{eqb-true, eqb-false}
+use lib.ListN.{length, getD, set, take, drop, length-append, length-set, drop-of-length-le, List·getD-append}
+use lib.Seq.{getD-append-add, take-suc-set, take-all, drop-cons}
 use Rattle.counting.specs.Count.{sumBelow, total, gather, each}
 use Rattle.counting.proofs.Ranges.{below-suc}
 
@@ -62,24 +59,23 @@ module _ (g : ℕ → ℕ) where
   each-total zero = refl
   each-total (suc n) = total-last (each n g) (g n) ∙ omega (arith, each-total n)
 
--- ---- the first i places of a list hold what another has there
+-- ---- the first i places of a list hold what another has there: those, then what is still to come, are all of it
 
-pub record Filled (t l : List ℕ) (i : ℕ) : Type 0 where
-  pub long : length l ≡ length t
-  pub here : (j : ℕ) → j < i → getD l j 0 ≡ getD t j 0
+abbrev pub Filled : List ℕ → List ℕ → ℕ → Type 0
+Filled t l i = (length l ≡ length t) × (take i l ++ drop i t ≡ t)
 
 module _ (t l : List ℕ) where
   pub fill-none : length l ≡ length t → Filled t l 0
-  fill-none e = record { long = e; here = λ j h. absurd (omega arith) }
+  fill-none e = (e, refl)
 
   pub fill-more : (i v : ℕ) → Filled t l i → i < length t → v ≡ getD t i 0 → Filled t (set l i v) (i + 1)
-  fill-more i v s h e = record { long = length-set l i v ∙ s .long; here = λ j k. at j k (eqb j i) refl }
-    where
-      at : (j : ℕ) → j < i + 1 → (b : Bool) → eqb j i ≡ b → getD (set l i v) j 0 ≡ getD t j 0
-      at j k true q = rw (eqb-true j i q, getD-set-same l i v 0 (omega (arith, s .long))) e
-      at j k false q =
-          let d : (j ≡ i → ⊥) = eqb-false j i q in
-          getD-set-other l i j v 0 d ∙ s .here j (omega arith)
+  fill-more i v s h e =
+      let room : i < length l = omega (arith, s .0) in (
+        length-set l i v ∙ s .0,
+        rw (e, add-one, take-suc-set, append-assoc) (rw (← drop-cons t i 0 h) (s .1)),
+      )
 
   pub filled : (i : ℕ) → Filled t l i → length t ≤ i → l ≡ t
-  filled i s h = ext-getD 0 l t (s .long) (λ j k. s .here j (omega (arith, s .long)))
+  filled i s h =
+      let all : take i l ++ drop i t ≡ l = rw (drop-of-length-le t h, take-all i l (omega (arith, s .0))) (append-nil l) in
+      sym all ∙ s .1

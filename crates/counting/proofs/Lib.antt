@@ -8,3 +8,4 @@ pub mod Sums
 pub mod Orders
 pub mod Once
 pub mod Gathers
+pub mod Tallies

@@ -24,7 +24,7 @@ use Rattle.choosing.proofs.Kept.{play-kept}
 use Rattle.round.specs.declared.Round.{Round}
 use Rattle.round.specs.Order.{freshRound}
 use Rattle.round.specs.Feed.{feed, withWagers, withDeck, withPlay}
-use Rattle.led.specs.Led.{Leads, Led}
+use Rattle.led.specs.Led.{isTaken, Leads, Led}
 use Rattle.led.specs.Led.Leads.{done, then}
 use Rattle.led.specs.Held.{opened, deckAfterSeats, isHeld}
 use Rattle.led.proofs.Took.{Took, took}
@@ -71,7 +71,7 @@ pub fresh-long : Long freshRound
 fresh-long =
     record { wagers = record { antes = refl; board = refl; pocket = refl; lo = refl }; cards = refl; play = record { raises = refl; folds = refl } }
 
-fresh-fits : Fits freshRound
+pub fresh-fits : Fits freshRound
 fresh-fits =
     record { table = table-fresh; seats = seats-fresh noTable; deck = deck-fresh; seated = refl; play = play-fresh (freshRound .wagers .antes) 0 }
 
@@ -127,16 +127,19 @@ fits-kept r s b l long f (choice k d o e) =
           ∙ play-kept antes (r .play) b (l .play) o (ap (playFits antes (r .play)) (sym (now-opened r d)) ∙ f .play) e;
     }
 
--- both, along any accepted records
+-- an accepted record keeps both
+pub taken-fits : (r : Round) (b : List ℕ) → Long r → Fits r → isTaken (feed r b .answer) ≡ true → Long (feed r b .round) × Fits (feed r b .round)
+taken-fits r b l f a =
+    let t = took r b a in (long-kept r (feed r b .round) b l (t .1), fits-kept r (feed r b .round) b l (t .0) f (t .1))
+
+-- along any accepted records
 pub leads-long : {r s : Round} {l : List (List ℕ)} → Leads r l s → Long r → Long s
 leads-long done l = l
 leads-long (then {r} b h a k) l = leads-long k (long-kept r (feed r b .round) b l (took r b a .1))
 
 pub leads-fits : {r s : Round} {l : List (List ℕ)} → Leads r l s → Long r → Fits r → Fits s
 leads-fits done l f = f
-leads-fits (then {r} b h a k) l f =
-    let t = took r b a in
-    leads-fits k (long-kept r (feed r b .round) b l (t .1)) (fits-kept r (feed r b .round) b l (t .0) f (t .1))
+leads-fits (then {r} b h a k) l f = let t = taken-fits r b l f a in leads-fits k (t .0) (t .1)
 
 -- of a led round
 pub led-long : (r : Round) → Led r → Long r

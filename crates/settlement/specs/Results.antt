@@ -2,13 +2,15 @@
 -- Assumes nothing.
 use Prim.Native.Nat.{ℕ, _+_, _*_}
 use mathlib.Core.List.{List, [], _∷_}
-use lib.ListN.{getD}
-use Rattle.counting.specs.Count.{gather}
+use lib.ListN.{getD, set}
+use Rattle.counting.specs.Count.{gather, each}
 use Rattle.seating.specs.declared.Table.{Table}
 use Rattle.round.specs.declared.Round.{Round}
 use Rattle.pool.specs.Pool.{sharesOf}
 use Rattle.amounts.specs.Base.{wins, kept}
-use Rattle.amounts.specs.Sides.{boardAmount, pocketAmount, loAmount}
+use Rattle.amounts.specs.Sides.{boardPayOf, boardAmount, pocketAmount, loAmount}
+use Rattle.settlement.specs.declared.Judged.{Judged}
+use Rattle.settlement.specs.declared.Amounts.{Amounts}
 
 -- The round maximum is 5,000 × the smallest ante.
 abbrev pub maximum : Table → ℕ
@@ -35,3 +37,15 @@ resultsLong = 7 * seatWagers
 
 unfoldable pub results : Round → List ℕ
 results r = gather 7 (seatAmounts r)
+
+-- what is worked out once for all seats, and the amounts of one
+abbrev pub judgedOf : Round → Judged
+judgedOf r = record { wins = wins r; kept = each 7 (kept r); shares = shares r; board = boardPayOf r }
+
+abbrev pub amountsOf : Round → ℕ → Amounts
+amountsOf r k = record { base = baseAmount r k; board = boardAmount r k; pocket = pocketAmount r k; lo = loAmount r k }
+
+-- a list with the amounts of the seat at place k
+abbrev pub withSeat : List ℕ → ℕ → Amounts → List ℕ
+withSeat l k a =
+    set (set (set (set l (seatWagers * k) (a .base)) (seatWagers * k + 1) (a .board)) (seatWagers * k + 2) (a .pocket)) (seatWagers * k + 3) (a .lo)

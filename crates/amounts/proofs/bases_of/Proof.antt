@@ -1,5 +1,6 @@
+use lib.ListN.{replicate}
 use Prim.Native.Nat.{_≤_, _-_}
-use mathlib.Core.Path.{_≡_, ap}
+use mathlib.Core.Path.{_≡_, refl, ap}
 use native.Mathlib.Omega.{arith}
 use Rattle.amounts.specs.declared.Base.{Base}
 use Rattle.amounts.specs.Base.{win, kept, wins}
@@ -15,7 +16,9 @@ abbrev μ-loop : tie.MeasureT-loop
 μ-loop round wins₀ kept₀ k₀ wins kept k = 7 - k
 
 loop-holds : tie.Need-loop-holds Inv-loop μ-loop
-loop-holds c = (search needs, no-seat _ _ (search needs), no-seat _ _ (search needs))
+loop-holds c =
+    let r = c .args .round in
+    (search needs, no-seat (win r) (replicate 7 0) refl, no-seat (kept r) (replicate 7 0) refl)
 
 cast-base-of : tie.Need-cast-base-of Inv-loop μ-loop
 cast-base-of c = search needs

@@ -1,0 +1,4 @@
+pub mod Dealt
+pub mod Pooled
+pub mod Absent
+pub mod Listed

@@ -1,0 +1,4 @@
+pub mod Records
+pub mod Readings
+pub mod Parts
+pub mod Prefix

@@ -1,0 +1,4 @@
+pub mod Results
+pub mod Judging
+pub mod Filling
+pub mod Answers
