@@ -12,7 +12,7 @@ returns : tie.Need-returns
 returns c =
     let d = c .before .is-held .ensures in
     let n = not-held _ _ (sym (d .test) ∙ not-true _ (c .if1 .taken)) in
-    (n, decided _ _ d)
+    (n .0, (n .1, decided _ _ d))
 
 settle-led-requires : tie.Need-settle-led-requires
 settle-led-requires c κs = c .before .before .is-held .ensures .led (not-false _ (c .before .if1 .left))
@@ -23,7 +23,7 @@ same-length c = search needs
 returns-2 : tie.Need-returns-2
 returns-2 c =
     let s = c .before .before .settle-led .ensures in
-    (s .0, s .1, decided _ _ (c .before .before .before .before .before .is-held .ensures))
+    (s .0, (s .1, decided _ _ (c .before .before .before .before .before .is-held .ensures)))
 
 pub settle-spec : {M : Type 1} → statement M
 settle-spec =
