@@ -1,2 +1,5 @@
 pub mod Third
 pub mod Whole
+pub mod Taken
+pub mod Settled
+pub mod Demands

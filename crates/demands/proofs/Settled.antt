@@ -1,0 +1,110 @@
+-- What a file's answer says of its records: where it is refused the lent list is as it was, and where it is not, its records lead to a finished
+-- round whose results the list then holds.
+-- Assumes nothing.
+use Prim.Native.Nat.{ℕ, _%_}
+use mathlib.Core.Path.{_≡_, refl, sym, ap, _∙_}
+use mathlib.Core.Bool.{Bool, true, false, not}
+use mathlib.Core.List.{List}
+use native.Mathlib.Omega.{arith}
+use lib.Dec.{eqb}
+use lib.ListN.{length}
+use borrow.Author.Tests.{eqb-true, eqb-false, eq-eqb, ne-eqb}
+use Rattle.counting.specs.Choose.{if_then_else_}
+use Rattle.counting.specs.Count.{total}
+use Rattle.counting.proofs.Tests.{clash, passed}
+use Rattle.round.specs.declared.Round.{Round}
+use Rattle.round.specs.Order.{isFinished}
+use Rattle.led.specs.Held.{isHeld}
+use Rattle.led.specs.Led.{Led}
+use Rattle.led.proofs.Kept.{led-held}
+use Rattle.amounts.specs.Base.{wins}
+use Rattle.reading.specs.declared.Reading.{Reading}
+use Rattle.settlement.specs.declared.Settlement.{Settlement}
+use Rattle.settlement.specs.declared.Settlement.the-variants.{Paid, Refused}
+use Rattle.settlement.specs.declared.FileSettlement.{FileSettlement}
+use Rattle.settlement.specs.declared.FileSettlement.the-variants.{Paid as PaidFile, Refused as RefusedFile}
+use Rattle.settlement.specs.Results.{shares, resultsLong, results}
+use Rattle.settlement.specs.Settle.{settleRefusal, settleAnswer, settleList, settleNumber, atPlace, readAnswer, readList, fileNumber}
+
+-- ---- a round
+
+module _ (r : Round) (lent : List ℕ) where
+  pub settle-number : settleNumber (settleAnswer r (length lent)) ≡ settleRefusal r (length lent)
+  unfolding settleAnswer
+  settle-number = go (settleRefusal r (length lent)) (eqb (settleRefusal r (length lent)) 0) refl
+    where
+      go : (n : ℕ) (none : Bool) → eqb n 0 ≡ none → settleNumber (if not none then Refused n else Paid (total (wins r)) (total (shares r))) ≡ n
+      go n true e = sym (eqb-true n 0 e)
+      go n false e = refl
+
+  pub settle-left : (settleNumber (settleAnswer r (length lent)) ≡ 0 → ⊥) → settleList r lent ≡ lent
+  unfolding settleList
+  settle-left n = simp (ne-eqb (settleRefusal r (length lent)) 0 (λ e. n (settle-number ∙ e)))
+
+  -- no refusal: the list has 28 places, the round is finished, and the results are written
+  pub record Done : Type 0 where
+    pub room : length lent ≡ resultsLong
+    pub finished : isFinished r ≡ true
+    pub answer : settleAnswer r (length lent) ≡ Paid (total (wins r)) (total (shares r))
+    pub list : settleList r lent ≡ results r
+
+  pub settled : settleNumber (settleAnswer r (length lent)) ≡ 0 → Done
+  unfolding settleRefusal settleAnswer settleList
+  settled z =
+      let none : settleRefusal r (length lent) ≡ 0 = sym settle-number ∙ z in
+      let held = passed (isHeld r) 16 (if not (eqb (length lent) resultsLong) then 1 else if not (isFinished r) then 16 else 0) none in
+      let room = passed (eqb (length lent) resultsLong) 0 (if not (isFinished r) then 16 else 0) (held .1) in
+      let done = passed (isFinished r) 15 0 (room .1) in
+      record { room = eqb-true (length lent) 28 (room .0); finished = done .0; answer = simp none; list = simp none }
+
+  pub finished-paid : Led r → length lent ≡ resultsLong → isFinished r ≡ true
+      → (settleAnswer r (length lent) ≡ Paid (total (wins r)) (total (shares r))) × (settleList r lent ≡ results r)
+  unfolding settleRefusal settleAnswer settleList
+  finished-paid l e f = (simp (led-held r l, e, f), simp (led-held r l, e, f))
+
+-- ---- a reading
+
+at-number : (place : ℕ) (s : Settlement) → fileNumber (atPlace place s) ≡ settleNumber s
+at-number place (Paid full paid) = refl
+at-number place (Refused number) = refl
+
+module _ (w : Reading) (lent : List ℕ) where
+  abbrev inner : FileSettlement
+  inner = atPlace (w .place) (settleAnswer (w .round) (length lent))
+
+  pub read-left : (fileNumber (readAnswer w (length lent)) ≡ 0 → ⊥) → readList w lent ≡ lent
+  unfolding readAnswer readList
+  read-left = go (eqb (length lent) resultsLong) refl (eqb (w .number) 0) refl
+    where
+      list : Bool → List ℕ
+      list none = if not none then lent else settleList (w .round) lent
+
+      go : (room : Bool) → eqb (length lent) resultsLong ≡ room → (none : Bool) → eqb (w .number) 0 ≡ none
+          → (fileNumber (if not room then RefusedFile 1 0 else if not none then RefusedFile (w .number) (w .place) else inner) ≡ 0 → ⊥)
+          → (if not none then lent else settleList (w .round) lent) ≡ lent
+      go room e false z n = refl
+      go true e true z n = settle-left (w .round) lent (λ q. n (at-number (w .place) (settleAnswer (w .round) (length lent)) ∙ q))
+      go false e true z n = settle-left (w .round) lent (λ q. eqb-false (length lent) 28 e (settled (w .round) lent q .room))
+
+  pub read-done : fileNumber (readAnswer w (length lent)) ≡ 0
+      → (w .number ≡ 0) × Done (w .round) lent × (readAnswer w (length lent) ≡ PaidFile (total (wins (w .round))) (total (shares (w .round)))) × (readList w lent ≡ results (w .round))
+  unfolding readAnswer readList
+  read-done = go (eqb (length lent) resultsLong) refl (eqb (w .number) 0) refl
+    where
+      go : (room : Bool) → eqb (length lent) resultsLong ≡ room → (none : Bool) → eqb (w .number) 0 ≡ none
+          → fileNumber (if not room then RefusedFile 1 0 else if not none then RefusedFile (w .number) (w .place) else inner) ≡ 0
+          → (w .number ≡ 0) × Done (w .round) lent
+          × ((if not room then RefusedFile 1 0 else if not none then RefusedFile (w .number) (w .place) else inner) ≡ PaidFile (total (wins (w .round))) (total (shares (w .round))))
+          × ((if not none then lent else settleList (w .round) lent) ≡ results (w .round))
+      go false e none z q = absurd (omega arith)
+      go true e false z q = absurd (eqb-false (w .number) 0 z q)
+      go true e true z q =
+          let d = settled (w .round) lent (sym (at-number (w .place) (settleAnswer (w .round) (length lent))) ∙ q) in
+          (eqb-true (w .number) 0 z, d, ap (atPlace (w .place)) (d .answer), d .list)
+
+  pub read-paid : Led (w .round) → w .number ≡ 0 → length lent ≡ resultsLong → isFinished (w .round) ≡ true
+      → (readAnswer w (length lent) ≡ PaidFile (total (wins (w .round))) (total (shares (w .round)))) × (readList w lent ≡ results (w .round))
+  unfolding readAnswer readList
+  read-paid l z e f =
+      let p = finished-paid (w .round) lent l e f in
+      (simp (z, eq-eqb (length lent) 28 e, p .0), simp z (p .1))

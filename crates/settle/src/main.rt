@@ -1,0 +1,109 @@
+// settles the round file on standard input
+//
+// A round file is a run of 16-byte records. Printed are each playing seat's number and four amounts in cents (base, Board, Pocket, Lo Ball), then
+// the pool in dollars, full and as paid; or only `refused N at R`, the refusal's number and its place.
+//
+// The first 34 records are held and the bytes beyond are counted, which is enough for the answer of the whole file
+// (`prefix-is-file`, crates/demands/proofs/Demands.antt). What is read and printed is tested, not proved.
+use libc::STDIN_FILENO;
+use libc::STDOUT_FILENO;
+use settlement::FileSettlement;
+use settlement::settle_prefix;
+ghost use Prim.Native.Nat.{_≤_};
+
+// The bytes that one more read finds.
+fn some_more() -> usize
+    ensures { λ r. ⌜ r ≤ 4096 ⌝ }
+{
+    let mut buffer = io::buffer();
+    io::read_full(STDIN_FILENO, &mut buffer)
+}
+
+// The bytes to the end of the input. Every loop must end: this one after 2^52 bytes.
+fn beyond() -> usize
+    ensures { λ r. ⌜ r ≤ 4503599627370496 ⌝ }
+{
+    let mut total: usize = 0;
+    let mut turns: usize = 1099511627776;
+    while 0 < turns {
+        let found = some_more();
+        if found == 0 {
+            return total;
+        }
+        total += found;
+        turns -= 1;
+    }
+    total
+}
+
+// The bytes beyond the first `n`: none where these don't fill their room.
+fn after(n: usize) -> usize
+    ensures { λ r. ⌜ r ≤ 4503599627370496 ⌝ }
+{
+    if n < 544 {
+        return 0;
+    }
+    beyond()
+}
+
+fn print_amount(amount: u64) {
+    io::write_all(STDOUT_FILENO, b" ");
+    io::print_decimal(STDOUT_FILENO, amount);
+}
+
+// A seat's number and its four amounts.
+fn print_seat(seat: u8, results: [u64; 28]) {
+    if seat < 1 {
+        return;
+    }
+    if 7 < seat {
+        return;
+    }
+    let at = 4 * (seat as usize - 1);
+    io::print_decimal(STDOUT_FILENO, seat as u64);
+    print_amount(results[at]);
+    print_amount(results[at + 1]);
+    print_amount(results[at + 2]);
+    print_amount(results[at + 3]);
+    io::write_all(STDOUT_FILENO, b"\n");
+}
+
+// The playing seats are those that have a seat record, and these come by rising numbers.
+fn print_seats(file: [u8; 544], results: [u64; 28]) {
+    for i in 0..34 {
+        if file[16 * i] == 2 {
+            print_seat(file[16 * i + 1], results);
+        }
+    }
+}
+
+fn print_pool(full: u64, paid: u64) {
+    io::write_all(STDOUT_FILENO, b"pool");
+    print_amount(full);
+    print_amount(paid);
+    io::write_all(STDOUT_FILENO, b"\n");
+}
+
+fn print_refused(number: u8, place: usize) {
+    io::write_all(STDOUT_FILENO, b"refused ");
+    io::print_decimal(STDOUT_FILENO, number as u64);
+    io::write_all(STDOUT_FILENO, b" at ");
+    io::print_decimal(STDOUT_FILENO, place as u64);
+    io::write_all(STDOUT_FILENO, b"\n");
+}
+
+fn main() {
+    let mut file = [0u8; 544];
+    let n = io::read_full(STDIN_FILENO, &mut file);
+    let more = after(n);
+    let mut results = [0u64; 28];
+    match settle_prefix(&file[..n], more, &mut results) {
+        FileSettlement::Paid { full, paid } => {
+            print_seats(file, results);
+            print_pool(full, paid);
+        }
+        FileSettlement::Refused { number, place } => {
+            print_refused(number, place);
+        }
+    }
+}
