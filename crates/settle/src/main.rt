@@ -1,4 +1,4 @@
-// settles the round file on standard input
+// Settles the round file on standard input: what each seat is owed, in cents, or the refusal and its place.
 //
 // A round file is a run of 16-byte records. Printed are each playing seat's number and four amounts in cents (base, Board, Pocket, Lo Ball), then
 // the pool in dollars, full and as paid; or only `refused N at R`, the refusal's number and its place.
