@@ -5,14 +5,11 @@
 -- `settleList` are `settlement::settle`'s, `fileAnswer` and `fileList` `settle_file`'s, `prefixAnswer` and `prefixList` `settle_prefix`'s,
 -- `refusedPart` `reading::refused_part`'s, `shareAnswer` and `shareList` `pool::share`'s.
 -- Assumes nothing.
-use Prim.Native.Nat.{ℕ, _*_, _-_, _%_, _≤_}
+use Prim.Native.Nat.{ℕ, _*_, _-_, _%_}
 use mathlib.Core.Path.{_≡_, refl, sym, ap, subst, _∙_}
-use mathlib.Core.Bool.{Bool, true, false}
-use mathlib.Core.List.{List, [], _∷_}
-use native.Mathlib.Omega.{arith}
-use lib.Dec.{eqb}
+use mathlib.Core.Bool.{true}
+use mathlib.Core.List.{List}
 use lib.ListN.{length, take}
-use borrow.Author.Tests.{eq-eqb}
 use Rattle.counting.specs.Count.{total}
 use Rattle.counting.proofs.Once.{one-answer}
 use Rattle.records.specs.Bytes.{areBytes}
@@ -20,16 +17,15 @@ use Rattle.names.specs.Top.{isRoyal}
 use Rattle.round.specs.declared.Round.{Round}
 use Rattle.round.specs.declared.Step.{Step}
 use Rattle.round.specs.Order.{freshRound, isFinished}
-use Rattle.round.specs.Feed.{refusal, feed, numberOf}
-use Rattle.led.specs.Led.{Leads, Led}
-use Rattle.led.specs.Held.{isHeld}
+use Rattle.round.specs.Feed.{numberOf}
+use Rattle.led.specs.Led.{Leads}
 use Rattle.held.specs.Take.{takes}
 use Rattle.pool.specs.declared.Shared.{Shared}
-use Rattle.pool.specs.Pool.{shareRefusal, shareAnswer, shareList}
+use Rattle.pool.specs.Pool.{shareAnswer, shareList}
 use Rattle.pool.specs.Pool.{numberOf as shareNumber}
 use Rattle.pool.proofs.Shares.{answer-number, refused as share-refused}
 use Rattle.amounts.specs.Base.{handOf, win, wins}
-use Rattle.reading.specs.File.{fileRecords, stop, readBy, readRecords, readFile, heldRecords, readPrefix, refusedPart}
+use Rattle.reading.specs.File.{fileRecords, stop, readBy, readFile, heldRecords, readPrefix, refusedPart}
 use Rattle.reading.specs.Joined.{joined}
 use Rattle.reading.proofs.Readings.{read-leads, leads-read, read-by-same, joined-read}
 use Rattle.reading.proofs.Prefix.{prefix-whole}
@@ -42,7 +38,7 @@ use Rattle.demands.specs.Floor.{floorOf, paidOf, Demand3}
 use Rattle.demands.proofs.Settled.{settle-left, read-left, read-done, read-paid}
 use Rattle.demands.proofs.Taken.{take-left, take-feeds}
 use Rattle.demands.proofs.Third.{demand-3}
-use Rattle.demands.proofs.Whole.{wholeRound, whole-led, whole-finished, whole-results, whole-pool, floor-reached}
+use Rattle.demands.proofs.Whole.{wholeRound, whole-led, whole-finished, whole-pool, floor-reached}
 
 -- ==== Demand 1. Every input gets an answer. Each entry checks what it is handed and refuses by number;
 

@@ -1,7 +1,7 @@
 -- What a file's answer says of its records: where it is refused the lent list is as it was, and where it is not, its records lead to a finished
 -- round whose results the list then holds.
 -- Assumes nothing.
-use Prim.Native.Nat.{ℕ, _%_}
+use Prim.Native.Nat.{ℕ}
 use mathlib.Core.Path.{_≡_, refl, sym, ap, _∙_}
 use mathlib.Core.Bool.{Bool, true, false, not}
 use mathlib.Core.List.{List}
@@ -11,7 +11,7 @@ use lib.ListN.{length}
 use borrow.Author.Tests.{eqb-true, eqb-false, eq-eqb, ne-eqb}
 use Rattle.counting.specs.Choose.{if_then_else_}
 use Rattle.counting.specs.Count.{total}
-use Rattle.counting.proofs.Tests.{clash, passed}
+use Rattle.counting.proofs.Tests.{passed}
 use Rattle.round.specs.declared.Round.{Round}
 use Rattle.round.specs.Order.{isFinished}
 use Rattle.led.specs.Held.{isHeld}

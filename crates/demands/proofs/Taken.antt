@@ -1,11 +1,10 @@
 -- A record to the public entry: a refusal hands back the same round, and a held round is fed.
 -- Assumes nothing.
 use Prim.Native.Nat.{ℕ}
-use mathlib.Core.Path.{_≡_, refl, sym, _∙_}
+use mathlib.Core.Path.{_≡_, refl}
 use mathlib.Core.Bool.{Bool, true, false, not}
 use mathlib.Core.List.{List}
 use lib.Dec.{eqb}
-use borrow.Author.Tests.{eqb-true}
 use Rattle.counting.specs.Choose.{if_then_else_}
 use Rattle.round.specs.declared.Round.{Round}
 use Rattle.round.specs.Order.{isFinished}

@@ -6,7 +6,6 @@
 use counting::at7;
 use counting::at52;
 ghost use mathlib.Core.Path.{_≡_};
-ghost use Prim.Native.Nat.{_≤_};
 ghost use Rattle.holding.specs.Deal.{playingBefore, hole, community, five};
 
 // How many seats play before place `k`.

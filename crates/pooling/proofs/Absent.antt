@@ -1,7 +1,7 @@
 -- A seat that doesn't play, or has folded, is handed nothing back on its base wager; one that doesn't play nothing at all.
 -- Assumes nothing.
 use Prim.Native.Nat.{ℕ, _<_}
-use mathlib.Core.Path.{_≡_, refl}
+use mathlib.Core.Path.{_≡_}
 use mathlib.Core.Bool.{false, and-false}
 use borrow.Author.Tests.{ne-eqb}
 use Rattle.records.specs.Seats.{plays}

@@ -1,7 +1,7 @@
 -- The answers of the entries and what the lent list then holds, case by case.
 -- Assumes nothing.
-use Prim.Native.Nat.{ℕ, _*_, _≤_}
-use mathlib.Core.Path.{_≡_, refl, sym, subst}
+use Prim.Native.Nat.{ℕ, _≤_}
+use mathlib.Core.Path.{_≡_, refl, subst}
 use mathlib.Core.Bool.{Bool, true, false}
 use mathlib.Core.List.{List}
 use native.Mathlib.Omega.{arith}
@@ -25,8 +25,8 @@ use Rattle.reading.proofs.Readings.{read-held, read-long}
 use Rattle.reading.proofs.Prefix.{prefix-held, prefix-long}
 use Rattle.settlement.specs.declared.Settlement.{Settlement}
 use Rattle.settlement.specs.declared.Settlement.the-variants.{Paid, Refused}
-use Rattle.settlement.specs.declared.FileSettlement.the-variants.{Paid as PaidFile, Refused as RefusedFile}
-use Rattle.settlement.specs.Results.{maximum, shares, resultsLong, results}
+use Rattle.settlement.specs.declared.FileSettlement.the-variants.{Refused as RefusedFile}
+use Rattle.settlement.specs.Results.{shares, resultsLong, results}
 use Rattle.settlement.specs.Settle.{settleRefusal, settleAnswer, settleList, atPlace, readAnswer, readList}
 use Rattle.settlement.proofs.Results.{shares-within, settles}
 

@@ -1,7 +1,7 @@
 -- The base amount of a seat, from what was worked out once for all seats: by whether it has a win in the pool.
 -- Assumes nothing.
 use Prim.Native.Nat.{ℕ, _+_, _*_, _≤_, _<_}
-use mathlib.Core.Path.{_≡_, ap, sym, _∙_}
+use mathlib.Core.Path.{_≡_, ap, _∙_}
 use native.Mathlib.Omega.{arith}
 use lib.ListN.{getD}
 use Rattle.counting.proofs.Gathers.{each-at}

@@ -3,7 +3,6 @@
 // settle takes a round that a pad holds; settle_file and settle_prefix take a file of its records. Each answers every input and has no `requires`:
 // specs/Settle.antt says what is answered and what the lent list then holds. The results are worked out by value, without a heap, and
 // copied into the lent list once; a refusal is known before, and changes nothing there. specs/Results.antt has the pool and the results list.
-use amounts::Bases;
 use amounts::base_wager;
 use amounts::bases_of;
 use amounts::board_pay_of;
@@ -20,14 +19,13 @@ use round::Round;
 ghost use mathlib.Core.Path.{_≡_};
 ghost use mathlib.Core.Bool.{true};
 ghost use Prim.Native.Nat.{_*_, _≤_, _<_};
-ghost use lib.ListN.{length, getD};
-ghost use Rattle.counting.specs.Count.{total, each};
+ghost use lib.ListN.{length};
+ghost use Rattle.counting.specs.Count.{total};
 ghost use Rattle.pool.specs.Pool.{winsFit, sharesOf};
 ghost use Rattle.led.specs.Led.{Led};
 ghost use Rattle.led.specs.Held.{isHeld};
 ghost use Rattle.held.specs.Take.{Decides};
 ghost use Rattle.amounts.specs.Base.{wins};
-ghost use Rattle.amounts.specs.Sides.{boardAmount};
 ghost use Rattle.settlement.specs.Results.{maximum, baseAmount, judgedOf, amountsOf, withSeat, results};
 ghost use Rattle.settlement.specs.Settle.{settleAnswer, settleList, atPlace, readAnswer, readList, fileAnswer, fileList, prefixAnswer, prefixList};
 

@@ -1,6 +1,6 @@
 use lib.ListN.{replicate}
 use Prim.Native.Nat.{_≤_, _-_}
-use mathlib.Core.Path.{_≡_, refl, ap}
+use mathlib.Core.Path.{refl, ap}
 use native.Mathlib.Omega.{arith}
 use Rattle.amounts.specs.declared.Base.{Base}
 use Rattle.amounts.specs.Base.{win, kept, wins}

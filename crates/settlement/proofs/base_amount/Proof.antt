@@ -1,7 +1,4 @@
-use Prim.Native.Nat.{_+_, _≤_}
-use mathlib.Core.Path.{ap, _∙_}
 use native.Mathlib.Omega.{arith}
-use lib.ListN.{getD}
 use Rattle.settlement.proofs.Judging.{share-there, base-with, base-without}
 use borrow.Author.Needs.{needs}
 use Rattle.settlement.proofs.base_amount.Statement.{statement}

@@ -1,5 +1,3 @@
-use mathlib.Core.Path.{ap}
-use Rattle.amounts.specs.declared.Bases.{Bases}
 use Rattle.settlement.specs.Results.{shares}
 use borrow.Author.Needs.{needs}
 use Rattle.settlement.proofs.judge.Statement.{statement}

@@ -1,7 +1,7 @@
-use Prim.Native.Nat.{_+_, _-_, _≤_, _<_}
-use mathlib.Core.Path.{_≡_, refl}
+use Prim.Native.Nat.{_+_, _-_, _≤_}
+use mathlib.Core.Path.{_≡_}
 use native.Mathlib.Omega.{arith}
-use lib.ListN.{length, drop, getD}
+use lib.ListN.{length, drop}
 use Rattle.counting.specs.Count.{total}
 use Rattle.counting.proofs.Lists.{total-step, total-end}
 use borrow.Author.Needs.{needs}
