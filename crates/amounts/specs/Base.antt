@@ -55,8 +55,8 @@ kept r k =
     else 0
 
 -- both, of a seat that is still in, by what its pay table says,
-abbrev pub judgedOf : Pay → ℕ → Base
-judgedOf pay wager =
+abbrev pub baseAt : Pay → ℕ → Base
+baseAt pay wager =
     record {
       win = if aboveFifty pay then winAt pay wager else 0;
       kept = if aboveFifty pay then 100 * wager else handedBack pay wager;

@@ -15,7 +15,7 @@ use odds::win_at;
 use round::Round;
 ghost use mathlib.Core.Path.{_≡_};
 ghost use Prim.Native.Nat.{_+_, _*_};
-ghost use Rattle.amounts.specs.Base.{baseWager, handOf, judgedOf, baseOf, basesOf};
+ghost use Rattle.amounts.specs.Base.{baseWager, handOf, baseAt, baseOf, basesOf};
 ghost use Rattle.amounts.specs.Sides.{boardPayOf, pocketAmount, loAmount};
 
 // A seat's win in the pool, in dollars, and what its base wager hands back besides a share of the pool, in cents.
@@ -63,8 +63,8 @@ pub fn hand_of(round: Round, k: u8) -> FiveName
 }
 
 // The base of a seat that is still in, by what its pay table says of its hand.
-fn judged(pay: Pay, wager: u32) -> Base
-    ensures { λ r. ⌜ r ≡ judgedOf pay wager ⌝ }
+fn base_at(pay: Pay, wager: u32) -> Base
+    ensures { λ r. ⌜ r ≡ baseAt pay wager ⌝ }
 {
     if is_above_fifty(pay) {
         return Base {
@@ -87,7 +87,7 @@ pub fn base_of(round: Round, k: u8) -> Base
         return Base { win: 0, kept: 0 };
     }
     let pay = odds::base_pay(round.table.base, hand_of(round, k));
-    judged(pay, base_wager(round, k))
+    base_at(pay, base_wager(round, k))
 }
 
 pub fn bases_of(round: Round) -> Bases

@@ -1,20 +1,19 @@
--- Lists that are gathered place by place, m numbers at each: how long they are, and what stands where. And a list that is being filled
--- with what another has.
+-- Lists that are gathered place by place, m numbers at each: how long they are, and what stands where.
 -- Assumes nothing.
 use Prim.Native.Nat.{ℕ, zero, suc, _+_, _*_, _≤_, _<_}
 use mathlib.Core.Path.{_≡_, refl, sym, _∙_}
-use mathlib.Core.List.{List, [], _∷_, _++_, append-assoc, append-nil}
+use mathlib.Core.List.{List, [], _∷_, _++_}
 use native.Mathlib.Nat.{mul-le-mul-left, mul-add, mul-one}
 use native.Mathlib.Numerals.{add-one}
 use native.Mathlib.Omega.{arith}
-use lib.ListN.{length, getD, set, take, drop, length-append, length-set, drop-of-length-le, List·getD-append}
-use lib.Seq.{getD-append-add, take-suc-set, take-all, drop-cons}
+use lib.ListN.{length, getD, length-append, List·getD-append}
+use lib.Seq.{getD-append-add}
 use Rattle.counting.specs.Count.{sumBelow, total, gather, each}
 use Rattle.counting.proofs.Ranges.{below-suc}
 
 -- ---- m numbers at each of n places
 
-one-more : (m n : ℕ) → m * (n + 1) ≡ m * n + m
+pub one-more : (m n : ℕ) → m * (n + 1) ≡ m * n + m
 one-more m n = rw (mul-add m n 1, mul-one m)
 
 module _ (m : ℕ) (f : ℕ → List ℕ) where
@@ -58,24 +57,3 @@ module _ (g : ℕ → ℕ) where
   unfolding gather total sumBelow
   each-total zero = refl
   each-total (suc n) = total-last (each n g) (g n) ∙ omega (arith, each-total n)
-
--- ---- the first i places of a list hold what another has there: those, then what is still to come, are all of it
-
-abbrev pub Filled : List ℕ → List ℕ → ℕ → Type 0
-Filled t l i = (length l ≡ length t) × (take i l ++ drop i t ≡ t)
-
-module _ (t l : List ℕ) where
-  pub fill-none : length l ≡ length t → Filled t l 0
-  fill-none e = (e, refl)
-
-  pub fill-more : (i v : ℕ) → Filled t l i → i < length t → v ≡ getD t i 0 → Filled t (set l i v) (i + 1)
-  fill-more i v s h e =
-      let room : i < length l = omega (arith, s .0) in (
-        length-set l i v ∙ s .0,
-        rw (e, add-one, take-suc-set, append-assoc) (rw (← drop-cons t i 0 h) (s .1)),
-      )
-
-  pub filled : (i : ℕ) → Filled t l i → length t ≤ i → l ≡ t
-  filled i s h =
-      let all : take i l ++ drop i t ≡ l = rw (drop-of-length-le t h, take-all i l (omega (arith, s .0))) (append-nil l) in
-      sym all ∙ s .1

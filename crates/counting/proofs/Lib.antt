@@ -2,10 +2,10 @@ pub mod Tests
 pub mod Arrays
 pub mod Ranges
 pub mod Lists
-pub mod Fills
 pub mod Firsts
 pub mod Sums
 pub mod Orders
 pub mod Once
 pub mod Gathers
+pub mod Fills
 pub mod Tallies

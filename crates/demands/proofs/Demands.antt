@@ -25,14 +25,15 @@ use Rattle.pool.specs.Pool.{shareAnswer, shareList}
 use Rattle.pool.specs.Pool.{numberOf as shareNumber}
 use Rattle.pool.proofs.Shares.{answer-number, refused as share-refused}
 use Rattle.amounts.specs.Base.{handOf, win, wins}
+use Rattle.results.specs.Results.{pool, resultsLong, results}
 use Rattle.reading.specs.File.{fileRecords, stop, readBy, readFile, heldRecords, readPrefix, refusedPart}
 use Rattle.reading.specs.Joined.{joined}
 use Rattle.reading.proofs.Readings.{read-leads, leads-read, read-by-same, joined-read}
 use Rattle.reading.proofs.Prefix.{prefix-whole}
+use Rattle.pooling.proofs.Shared.{pool-totals}
 use Rattle.settlement.specs.declared.Settlement.{Settlement}
 use Rattle.settlement.specs.declared.FileSettlement.{FileSettlement}
 use Rattle.settlement.specs.declared.FileSettlement.the-variants.{Paid}
-use Rattle.settlement.specs.Results.{shares, resultsLong, results}
 use Rattle.settlement.specs.Settle.{settleAnswer, settleList, settleNumber, readAnswer, readList, fileAnswer, fileList, prefixAnswer, prefixList, fileNumber}
 use Rattle.demands.specs.Floor.{floorOf, paidOf, Demand3}
 use Rattle.demands.proofs.Settled.{settle-left, read-left, read-done, read-paid}
@@ -98,16 +99,26 @@ pub record Accepted (l lent : List ℕ) : Type 0 where
   pub round : Round
   pub records : Leads freshRound (fileRecords l) round
   pub finished : isFinished round ≡ true
-  pub answer : fileAnswer l (length lent) ≡ Paid (total (wins round)) (total (shares round))
+  -- the pool is not refused: it is the round's wins, shared
+  pub totals : (pool round .number ≡ 0) × (pool round .full ≡ total (wins round)) × (pool round .paid ≡ total (pool round .shares))
+  pub answer : fileAnswer l (length lent) ≡ Paid (pool round .full) (pool round .paid)
   pub list : fileList l lent ≡ results round
 
 pub accepted-led : (l lent : List ℕ) → areBytes l ≡ true → fileNumber (fileAnswer l (length lent)) ≡ 0 → Accepted l lent
 accepted-led l lent h z =
     let d = read-done (readFile l) lent z in
-    record { round = readFile l .round; records = read-leads l h (d .0); finished = d .1 .finished; answer = d .2; list = d .3 }
+    let records = read-leads l h (d .0) in
+    record {
+      round = readFile l .round;
+      records = records;
+      finished = d .1 .finished;
+      totals = pool-totals (readFile l .round) (fileRecords l, records);
+      answer = d .2;
+      list = d .3;
+    }
 
 pub led-accepted : (l lent : List ℕ) (r : Round) → length l % 16 ≡ 0 → length lent ≡ resultsLong → Leads freshRound (fileRecords l) r → isFinished r ≡ true
-    → (fileAnswer l (length lent) ≡ Paid (total (wins r)) (total (shares r))) × (fileList l lent ≡ results r)
+    → (fileAnswer l (length lent) ≡ Paid (pool r .full) (pool r .paid)) × (fileList l lent ≡ results r)
 unfolding readFile
 led-accepted l lent r even room records finished =
     let read : readFile l ≡ stop r 0 (length (fileRecords l)) = simp even (leads-read (fileRecords l) r records) in

@@ -10,20 +10,18 @@ use lib.Dec.{eqb}
 use lib.ListN.{length}
 use borrow.Author.Tests.{eqb-true, eqb-false, eq-eqb, ne-eqb}
 use Rattle.counting.specs.Choose.{if_then_else_}
-use Rattle.counting.specs.Count.{total}
 use Rattle.counting.proofs.Tests.{passed}
 use Rattle.round.specs.declared.Round.{Round}
 use Rattle.round.specs.Order.{isFinished}
 use Rattle.led.specs.Held.{isHeld}
 use Rattle.led.specs.Led.{Led}
 use Rattle.led.proofs.Kept.{led-held}
-use Rattle.amounts.specs.Base.{wins}
 use Rattle.reading.specs.declared.Reading.{Reading}
+use Rattle.results.specs.Results.{pool, resultsLong, results}
 use Rattle.settlement.specs.declared.Settlement.{Settlement}
 use Rattle.settlement.specs.declared.Settlement.the-variants.{Paid, Refused}
 use Rattle.settlement.specs.declared.FileSettlement.{FileSettlement}
 use Rattle.settlement.specs.declared.FileSettlement.the-variants.{Paid as PaidFile, Refused as RefusedFile}
-use Rattle.settlement.specs.Results.{shares, resultsLong, results}
 use Rattle.settlement.specs.Settle.{settleRefusal, settleAnswer, settleList, settleNumber, atPlace, readAnswer, readList, fileNumber}
 
 -- ---- a round
@@ -33,7 +31,7 @@ module _ (r : Round) (lent : List ℕ) where
   unfolding settleAnswer
   settle-number = go (settleRefusal r (length lent)) (eqb (settleRefusal r (length lent)) 0) refl
     where
-      go : (n : ℕ) (none : Bool) → eqb n 0 ≡ none → settleNumber (if not none then Refused n else Paid (total (wins r)) (total (shares r))) ≡ n
+      go : (n : ℕ) (none : Bool) → eqb n 0 ≡ none → settleNumber (if not none then Refused n else Paid (pool r .full) (pool r .paid)) ≡ n
       go n true e = sym (eqb-true n 0 e)
       go n false e = refl
 
@@ -45,7 +43,7 @@ module _ (r : Round) (lent : List ℕ) where
   pub record Done : Type 0 where
     pub room : length lent ≡ resultsLong
     pub finished : isFinished r ≡ true
-    pub answer : settleAnswer r (length lent) ≡ Paid (total (wins r)) (total (shares r))
+    pub answer : settleAnswer r (length lent) ≡ Paid (pool r .full) (pool r .paid)
     pub list : settleList r lent ≡ results r
 
   pub settled : settleNumber (settleAnswer r (length lent)) ≡ 0 → Done
@@ -55,10 +53,10 @@ module _ (r : Round) (lent : List ℕ) where
       let held = passed (isHeld r) 16 (if not (eqb (length lent) resultsLong) then 1 else if not (isFinished r) then 16 else 0) none in
       let room = passed (eqb (length lent) resultsLong) 0 (if not (isFinished r) then 16 else 0) (held .1) in
       let done = passed (isFinished r) 15 0 (room .1) in
-      record { room = eqb-true (length lent) 28 (room .0); finished = done .0; answer = simp none; list = simp none }
+      record { room = eqb-true (length lent) resultsLong (room .0); finished = done .0; answer = simp none; list = simp none }
 
   pub finished-paid : Led r → length lent ≡ resultsLong → isFinished r ≡ true
-      → (settleAnswer r (length lent) ≡ Paid (total (wins r)) (total (shares r))) × (settleList r lent ≡ results r)
+      → (settleAnswer r (length lent) ≡ Paid (pool r .full) (pool r .paid)) × (settleList r lent ≡ results r)
   unfolding settleRefusal settleAnswer settleList
   finished-paid l e f = (simp (led-held r l, e, f), simp (led-held r l, e, f))
 
@@ -84,17 +82,17 @@ module _ (w : Reading) (lent : List ℕ) where
           → (if not none then lent else settleList (w .round) lent) ≡ lent
       go room e false z n = refl
       go true e true z n = settle-left (w .round) lent (λ q. n (at-number (w .place) (settleAnswer (w .round) (length lent)) ∙ q))
-      go false e true z n = settle-left (w .round) lent (λ q. eqb-false (length lent) 28 e (settled (w .round) lent q .room))
+      go false e true z n = settle-left (w .round) lent (λ q. eqb-false (length lent) resultsLong e (settled (w .round) lent q .room))
 
   pub read-done : fileNumber (readAnswer w (length lent)) ≡ 0
-      → (w .number ≡ 0) × Done (w .round) lent × (readAnswer w (length lent) ≡ PaidFile (total (wins (w .round))) (total (shares (w .round)))) × (readList w lent ≡ results (w .round))
+      → (w .number ≡ 0) × Done (w .round) lent × (readAnswer w (length lent) ≡ PaidFile (pool (w .round) .full) (pool (w .round) .paid)) × (readList w lent ≡ results (w .round))
   unfolding readAnswer readList
   read-done = go (eqb (length lent) resultsLong) refl (eqb (w .number) 0) refl
     where
       go : (room : Bool) → eqb (length lent) resultsLong ≡ room → (none : Bool) → eqb (w .number) 0 ≡ none
           → fileNumber (if not room then RefusedFile 1 0 else if not none then RefusedFile (w .number) (w .place) else inner) ≡ 0
           → (w .number ≡ 0) × Done (w .round) lent
-          × ((if not room then RefusedFile 1 0 else if not none then RefusedFile (w .number) (w .place) else inner) ≡ PaidFile (total (wins (w .round))) (total (shares (w .round))))
+          × ((if not room then RefusedFile 1 0 else if not none then RefusedFile (w .number) (w .place) else inner) ≡ PaidFile (pool (w .round) .full) (pool (w .round) .paid))
           × ((if not none then lent else settleList (w .round) lent) ≡ results (w .round))
       go false e none z q = absurd (omega arith)
       go true e false z q = absurd (eqb-false (w .number) 0 z q)
@@ -103,8 +101,8 @@ module _ (w : Reading) (lent : List ℕ) where
           (eqb-true (w .number) 0 z, d, ap (atPlace (w .place)) (d .answer), d .list)
 
   pub read-paid : Led (w .round) → w .number ≡ 0 → length lent ≡ resultsLong → isFinished (w .round) ≡ true
-      → (readAnswer w (length lent) ≡ PaidFile (total (wins (w .round))) (total (shares (w .round)))) × (readList w lent ≡ results (w .round))
+      → (readAnswer w (length lent) ≡ PaidFile (pool (w .round) .full) (pool (w .round) .paid)) × (readList w lent ≡ results (w .round))
   unfolding readAnswer readList
   read-paid l z e f =
       let p = finished-paid (w .round) lent l e f in
-      (simp (z, eq-eqb (length lent) 28 e, p .0), simp z (p .1))
+      (simp (z, eq-eqb (length lent) resultsLong e, p .0), simp z (p .1))

@@ -7,11 +7,11 @@ use mathlib.Core.Bool.{Bool, true, false}
 use native.Mathlib.Nat.{le-trans, mul-le-mul-left, div-mul-le-self, le-div-iff-mul-le}
 use native.Mathlib.Omega.{arith}
 use lib.Dec.{leb}
-use lib.ListN.{length, getD}
+use lib.ListN.{getD}
 use borrow.Author.Tests.{leb-true, leb-false}
 use Rattle.counting.specs.Choose.{if_then_else_}
 use Rattle.counting.specs.Count.{sumBelow, total}
-use Rattle.counting.proofs.Gathers.{each-length, each-total}
+use Rattle.counting.proofs.Gathers.{each-total}
 use Rattle.counting.proofs.Tests.{clash}
 use Rattle.names.specs.Top.{isRoyal}
 use Rattle.seating.specs.declared.Table.{Table}
@@ -20,9 +20,10 @@ use Rattle.round.specs.Order.{isFinished}
 use Rattle.led.specs.Led.{Led}
 use Rattle.amounts.specs.Base.{baseWager, handOf, pooled, win, wins}
 use Rattle.counting.proofs.Tallies.{sum-times, sum-two, total-sum}
-use Rattle.pooling.proofs.Pooled.{is-royal-or, pooled-top, win-none, win-most, few, one-royal}
-use Rattle.settlement.specs.Results.{maximum, shares, seatWagers, results}
-use Rattle.settlement.proofs.Results.{shared, win-at, share-most, shares-within, base-pooled, base-at}
+use Rattle.results.specs.Results.{maximum, pool, seatWagers, results}
+use Rattle.results.proofs.Places.{win-at, win-none, share-most, base-pooled, base-at}
+use Rattle.pooling.proofs.Pooled.{is-royal-or, pooled-top, win-most, few, one-royal}
+use Rattle.pooling.proofs.Shared.{wins-long, shared, shares-within}
 use Rattle.demands.specs.Floor.{otherWin, floorOf, paidOf, Demand3}
 
 -- a smaller pool gives no smaller part
@@ -33,24 +34,22 @@ part most w pool other h k =
 -- ---- what is paid is 100 times the share
 
 module _ (r : Round) where
-  pooled-at : (k : ℕ) → k < 7 → pooled r k ≡ true → getD (results r) (seatWagers * k) 0 ≡ 100 * (baseWager r k + getD (shares r) k 0)
+  pooled-at : (k : ℕ) → k < 7 → pooled r k ≡ true → getD (results r) (seatWagers * k) 0 ≡ 100 * (baseWager r k + getD (pool r .shares) k 0)
   pooled-at k h p = base-at r k h ∙ base-pooled r k p
 
-  paid-at : (k : ℕ) → k < 7 → paidOf r (results r) k ≡ 100 * getD (shares r) k 0
+  paid-at : (k : ℕ) → k < 7 → paidOf r (results r) k ≡ 100 * getD (pool r .shares) k 0
   unfolding paidOf
   paid-at k h = go (pooled r k) refl
     where
-      go : (p : Bool) → pooled r k ≡ p → paidOf r (results r) k ≡ 100 * getD (shares r) k 0
+      go : (p : Bool) → pooled r k ≡ p → paidOf r (results r) k ≡ 100 * getD (pool r .shares) k 0
       go true p = simp (p, pooled-at k h p) (omega arith)
       go false p = simp p (omega (arith, share-most r k h, win-none r k p))
 
-  shares-long : length (shares r) ≡ 7
-  unfolding wins
-  shares-long = shared r .long ∙ each-length (win r) 7
-
   -- the pool as paid is what the seats are paid of it
-  pub pool-paid : sumBelow 7 (paidOf r (results r)) ≡ 100 * total (shares r)
-  pool-paid = rw (total-sum (shares r) 7 shares-long) (sum-times 100 7 (paidOf r (results r)) (λ k. getD (shares r) k 0) paid-at)
+  pub pool-paid : Led r → sumBelow 7 (paidOf r (results r)) ≡ 100 * total (pool r .shares)
+  pool-paid l =
+      let long = shared r l .long ∙ wins-long r in
+      rw (total-sum (pool r .shares) 7 long) (sum-times 100 7 (paidOf r (results r)) (λ k. getD (pool r .shares) k 0) paid-at)
 
 -- ---- the floor
 
@@ -75,15 +74,15 @@ module _ (r : Round) (l : Led r) (e : isFinished r ≡ true) where
     unfolding wins
     pool-most = rw (each-total (win r) 7) (sum-two (pooled r) (win r) (otherWin (r .table) royal) k 7 h (few r l e) p (win-none r) other)
 
-    share-least : floorOf (r .table) royal (win r k) ≤ getD (shares r) k 0
+    share-least : floorOf (r .table) royal (win r k) ≤ getD (pool r .shares) k 0
     unfolding floorOf
     share-least = go (leb (total (wins r)) (maximum (r .table))) refl
       where
-        go : (full : Bool) → leb (total (wins r)) (maximum (r .table)) ≡ full → floorOf (r .table) royal (win r k) ≤ getD (shares r) k 0
-        go true x = rw (shared r .inFull (leb-true _ _ x), win-at r k h) (omega arith)
+        go : (full : Bool) → leb (total (wins r)) (maximum (r .table)) ≡ full → floorOf (r .table) royal (win r k) ≤ getD (pool r .shares) k 0
+        go true x = rw (shared r l .inFull (leb-true _ _ x), win-at r k h) (omega arith)
         go false x =
             let cut : maximum (r .table) < total (wins r) = leb-false _ _ x in
-            let least : maximum (r .table) * win r k / total (wins r) ≤ getD (shares r) k 0 = rw (win-at r k h) at (shared r .least cut k) in
+            let least : maximum (r .table) * win r k / total (wins r) ≤ getD (pool r .shares) k 0 = rw (win-at r k h) at (shared r l .least cut k) in
             omega (arith, part (maximum (r .table)) (win r k) (total (wins r)) (otherWin (r .table) royal) (omega arith) pool-most)
 
   pub demand-3 : Demand3 r (results r)
@@ -91,7 +90,7 @@ module _ (r : Round) (l : Led r) (e : isFinished r ≡ true) where
       record {
         few = few r l e;
         top = λ k h p. is-royal-or (handOf r k) (pooled-top r l k h p);
-        together = omega (arith, pool-paid r, shares-within r);
+        together = omega (arith, pool-paid r l, shares-within r l);
         noMore = λ k h p. omega (arith, paid-at r k h, share-most r k h);
         wagerBack = λ k h p. omega (arith, pooled-at r k h p);
         floor = λ k h p. omega (arith, paid-at r k h, share-least k h p);

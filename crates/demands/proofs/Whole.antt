@@ -16,7 +16,7 @@ use Rattle.names.specs.Pocket.{aceFace, pocketBy, namePocket}
 use Rattle.names.specs.Lo.{isLo, loBy, nameLo}
 use Rattle.odds.specs.Tables.{baseLines, loLines, boardLines, pocketLines}
 use Rattle.odds.specs.Pays.{payIn, basePay, loPay, boardPay, pocketPay}
-use Rattle.pool.specs.Pool.{shareOf, sharesOf}
+use Rattle.pool.specs.Pool.{shareOf, sharesOf, winsFit, shareRefusal, poolOf}
 use Rattle.seating.specs.Table.{limitsFit, tablesFit, isBlank, tableFits}
 use Rattle.seating.specs.Seat.{noWager, wagersFit, seatsFit}
 use Rattle.dealing.specs.Part.{deckFits}
@@ -30,7 +30,7 @@ use Rattle.led.proofs.Exact.{held-led}
 use Rattle.holding.specs.Deal.{playingBefore, hole, community, five}
 use Rattle.amounts.specs.Base.{baseWager, handOf, basePayOf, pooled, win, kept, wins}
 use Rattle.amounts.specs.Sides.{boardPayOf, boardAmount, pocketAmount, loAmount}
-use Rattle.settlement.specs.Results.{shares, baseAmount, seatAmounts, results}
+use Rattle.results.specs.Results.{pool, baseAmount, seatAmounts, results}
 use Rattle.demands.specs.Floor.{floorOf, paidOf}
 
 unfoldable pub wholeRound : Round
@@ -79,12 +79,12 @@ pub whole-results : results wholeRound ≡ 2183300 ∷ 20500 ∷ 10500 ∷ 0
     ∷ 0 ∷ 0 ∷ 0 ∷ 0
     ∷ 0 ∷ 0 ∷ 0 ∷ 0
     ∷ 0 ∷ 0 ∷ 0 ∷ 0 ∷ []
-unfolding wholeRound tally everyBelow someBelow count total gather ofRank ofSuit kinds flush rankOn run straight highest fiveBy nameFive boardBy nameBoard aceFace pocketBy namePocket isLo loBy nameLo baseLines loLines boardLines pocketLines payIn basePay loPay boardPay pocketPay shareOf sharesOf playingBefore hole community five baseWager handOf basePayOf pooled win kept wins boardPayOf boardAmount pocketAmount loAmount shares baseAmount seatAmounts results
+unfolding wholeRound tally everyBelow someBelow count total gather ofRank ofSuit kinds flush rankOn run straight highest fiveBy nameFive boardBy nameBoard aceFace pocketBy namePocket isLo loBy nameLo baseLines loLines boardLines pocketLines payIn basePay loPay boardPay pocketPay shareOf sharesOf winsFit shareRefusal poolOf everyOf playingBefore hole community five baseWager handOf basePayOf pooled win kept wins boardPayOf boardAmount pocketAmount loAmount pool baseAmount seatAmounts results
 whole-results = refl
 
 -- the pool in dollars, full and as paid
-pub whole-pool : (total (wins wholeRound) ≡ 600000) × (total (shares wholeRound) ≡ 24999)
-unfolding wholeRound tally everyBelow someBelow count total gather ofRank ofSuit flush rankOn run straight fiveBy nameFive baseLines payIn basePay shareOf sharesOf playingBefore hole community five baseWager handOf basePayOf pooled win wins shares
+pub whole-pool : (pool wholeRound .full ≡ 600000) × (pool wholeRound .paid ≡ 24999)
+unfolding wholeRound tally everyBelow someBelow count total gather ofRank ofSuit flush rankOn run straight fiveBy nameFive baseLines payIn basePay shareOf sharesOf winsFit shareRefusal poolOf everyOf playingBefore hole community five baseWager handOf basePayOf pooled win wins pool
 whole-pool = (refl, refl)
 
 -- the second seat is paid its floor and no more

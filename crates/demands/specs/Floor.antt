@@ -14,7 +14,7 @@ use Rattle.round.specs.declared.Round.{Round}
 use Rattle.names.specs.Top.{isRoyal}
 use Rattle.names.specs.declared.FiveName.the-variants.{RoyalFlush, StraightFlush}
 use Rattle.amounts.specs.Base.{baseWager, handOf, pooled, win}
-use Rattle.settlement.specs.Results.{maximum, seatWagers}
+use Rattle.results.specs.Results.{maximum, seatWagers}
 
 -- M: the table's posted largest ante times 1,000 if the seat holds a royal flush, times 5,000 if a straight flush
 abbrev pub otherWin : Table → Bool → ℕ

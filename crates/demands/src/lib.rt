@@ -1,10 +1,10 @@
 // The three demands on the settler, as theorems over the definitions that its contracts cite: proofs/Demands.antt has them.
 //
 // The code here works out the floor of the third demand, as specs/Floor.antt defines it. It answers for any table and any win.
+use results::maximum_of;
 use seating::Table;
 ghost use Prim.Native.Nat.{min};
 ghost use mathlib.Core.Path.{_≡_};
-ghost use Rattle.settlement.specs.Results.{maximum};
 ghost use Rattle.demands.specs.Floor.{otherWin, floorOf};
 
 // The largest win that another seat can have in the pool beside this one.
@@ -15,12 +15,6 @@ fn other_win(table: Table, royal: bool) -> u32
         return 1000 * (table.largest as u32);
     }
     5000 * (table.largest as u32)
-}
-
-fn maximum_of(table: Table) -> u32
-    ensures { λ r. ⌜ r ≡ maximum table ⌝ }
-{
-    5000 * (table.smallest as u32)
 }
 
 fn least(a: u64, b: u64) -> u64
@@ -38,6 +32,6 @@ pub fn sure_of(table: Table, royal: bool, win: u32) -> u64
     }
     let most = maximum_of(table);
     let other = other_win(table, royal);
-    let part = most as u64 * (win as u64) / (win as u64 + other as u64);
+    let part = most * (win as u64) / (win as u64 + other as u64);
     least(win as u64, part)
 }

@@ -37,7 +37,7 @@ module _ (maximum pool : ℕ) where
           rw (share-cut win h) (div-le-of-le-mul pool (mul-le-mul-right win (omega arith)))
 
   -- at any place: past the end there is no win and no share
-  share-at : (wins : List ℕ) (k : ℕ) → getD (map (shareOf maximum pool) wins) k 0 ≡ shareOf maximum pool (getD wins k 0)
+  pub share-at : (wins : List ℕ) (k : ℕ) → getD (map (shareOf maximum pool) wins) k 0 ≡ shareOf maximum pool (getD wins k 0)
   share-at wins k =
       let none : shareOf maximum pool 0 ≡ 0 = omega (arith, at-most 0) in
       rw none at (List·getD-map (shareOf maximum pool) wins k 0)

@@ -4,11 +4,12 @@ use Prim.Native.Nat.{ℕ, _*_, _/_}
 use mathlib.Core.Bool.{Bool, not, _||_}
 use mathlib.Core.List.{List, map}
 use lib.Dec.{eqb, leb, ltb}
-use lib.ListN.{length}
+use lib.ListN.{length, replicate}
 use Rattle.counting.specs.Choose.{if_then_else_}
 use Rattle.counting.specs.Count.{everyOf, total}
 use Rattle.pool.specs.declared.Shared.{Shared}
 use Rattle.pool.specs.declared.Shared.the-variants.{Full, Cut, Refused}
+use Rattle.pool.specs.declared.Pool.{Pool}
 
 -- If the pool's total is at most the maximum, all are paid in full. Otherwise each gets maximum × its win ÷ total, rounded down to
 -- a dollar; the rest stays with the house.
@@ -48,3 +49,9 @@ abbrev pub numberOf : Shared → ℕ
 numberOf Full = 0
 numberOf Cut = 0
 numberOf (Refused number) = number
+
+-- the pool of seven wins by value: the total in full and as paid, and each share; where the sharing is refused there are none
+unfoldable pub poolOf : List ℕ → ℕ → Pool
+poolOf wins maximum =
+    if not (eqb (shareRefusal wins maximum 7) 0) then record { number = shareRefusal wins maximum 7; full = 0; paid = 0; shares = replicate 7 0 }
+    else record { number = 0; full = total wins; paid = total (sharesOf maximum wins); shares = sharesOf maximum wins }

@@ -1,15 +1,15 @@
 // The sharing of the round maximum among the base wins at odds above 50.
 //
-// share is the entry: it answers every input and has no `requires`. specs/Pool.antt says what it answers and what the
-// lent list then holds; specs/Shares.antt has the laws of a share, the only things that callers cite. All wins,
-// shares and maximums are whole dollars.
+// share is the entry on lent lists, pool_of the same of seven wins by value. Each answers every input and has no `requires`.
+// specs/Pool.antt says what is answered and what the lent list then holds; specs/Shares.antt has the laws of a share, the only
+// things that callers cite. All wins, shares and maximums are whole dollars.
 ghost use mathlib.Core.Path.{_≡_};
 ghost use mathlib.Core.Bool.{true};
 ghost use mathlib.Core.List.{map};
 ghost use Prim.Native.Nat.{_*_, _≤_};
 ghost use lib.ListN.{length};
 ghost use Rattle.counting.specs.Count.{total};
-ghost use Rattle.pool.specs.Pool.{shareOf, winsFit, shareRefusal, shareAnswer, shareList};
+ghost use Rattle.pool.specs.Pool.{shareOf, winsFit, shareRefusal, shareAnswer, shareList, poolOf};
 
 // The answer of share.
 pub enum Shared {
@@ -19,6 +19,15 @@ pub enum Shared {
     Cut,
     // 19 or 20; the lent list is as it was.
     Refused(u8),
+}
+
+// The pool of seven wins: its total in full and as paid, and the share of each.
+pub struct Pool {
+    // 20 where it is refused, else 0.
+    pub number: u8,
+    pub full: u64,
+    pub paid: u64,
+    pub shares: [u64; 7],
 }
 
 // No win is above 500,000.
@@ -107,4 +116,29 @@ pub fn share(wins: &[u64], maximum: u64, shares: &mut [u64]) -> Shared
         return Shared::Full;
     }
     Shared::Cut
+}
+
+// Shares the maximum among seven wins; a place that has no win has a win of 0.
+pub fn pool_of(wins: [u64; 7], maximum: u64) -> Pool
+    ensures { λ r. ⌜ r ≡ poolOf wins maximum ⌝ }
+{
+    let mut shares = [0u64; 7];
+    let number = share_refusal(&wins, maximum, 7);
+    if number != 0 {
+        return Pool {
+            number,
+            full: 0,
+            paid: 0,
+            shares,
+        };
+    }
+    let full = total_of(&wins);
+    fill(&wins, maximum, full, &mut shares);
+    let paid = total_of(&shares);
+    Pool {
+        number,
+        full,
+        paid,
+        shares,
+    }
 }

@@ -1,4 +1,5 @@
 pub mod Dealt
 pub mod Pooled
+pub mod Shared
 pub mod Absent
 pub mod Listed

@@ -31,6 +31,7 @@ use Rattle.led.proofs.Facts.{finished-dealt, led-deck, led-wagers, led-table, l
 use Rattle.led.proofs.Kept.{led-fits}
 use Rattle.amounts.specs.Base.{raisedBy, baseWager, staysIn, handOf, basePayOf, pooled, win, wins}
 use Rattle.counting.proofs.Tallies.{tally-more, every-each}
+use Rattle.results.proofs.Places.{win-none}
 use Rattle.pooling.proofs.Dealt.{no-three, no-two}
 
 -- ---- the two names
@@ -66,10 +67,6 @@ module _ (r : Round) where
 
   pub pooled-plays : (k : ℕ) → pooled r k ≡ true → plays (r .wagers .antes) k ≡ true
   pooled-plays k p = and-true (plays (r .wagers .antes) k) (eqb (foldOf (r .play) k) 0) (in-pool k p .0) .0
-
-  pub win-none : (k : ℕ) → pooled r k ≡ false → win r k ≡ 0
-  unfolding win
-  win-none k p = simp p
 
 module _ (r : Round) (l : Led r) where
   pub pooled-top : (k : ℕ) → k < 7 → pooled r k ≡ true → isTop (handOf r k) ≡ true

@@ -7,9 +7,16 @@
 // (`prefix-is-file`, crates/demands/proofs/Demands.antt). What is read and printed is tested, not proved.
 use libc::STDIN_FILENO;
 use libc::STDOUT_FILENO;
+use results::RESULTS;
+use results::SEAT_WAGERS;
 use settlement::FileSettlement;
 use settlement::settle_prefix;
-ghost use Prim.Native.Nat.{_≤_};
+ghost use Prim.Native.Nat.{_≤_, _<_};
+
+// The records that are held, and their bytes.
+const HELD: usize = 34;
+
+const HELD_BYTES: usize = 16 * HELD;
 
 // The bytes that one more read finds.
 fn some_more() -> usize
@@ -40,7 +47,7 @@ fn beyond() -> usize
 fn after(n: usize) -> usize
     ensures { λ r. ⌜ r ≤ 4503599627370496 ⌝ }
 {
-    if n < 544 {
+    if n < HELD_BYTES {
         return 0;
     }
     beyond()
@@ -51,26 +58,31 @@ fn print_amount(amount: u64) {
     io::print_decimal(STDOUT_FILENO, amount);
 }
 
-// A seat's number and its four amounts.
-fn print_seat(seat: u8, results: [u64; 28]) {
+// The amounts of the seat at place `k`.
+fn print_amounts(k: usize, results: [u64; RESULTS])
+    requires { ⌜ k < 7 ⌝ }
+{
+    for w in 0..SEAT_WAGERS {
+        print_amount(results[SEAT_WAGERS * k + w]);
+    }
+}
+
+// A seat's number and its amounts.
+fn print_seat(seat: u8, results: [u64; RESULTS]) {
     if seat < 1 {
         return;
     }
     if 7 < seat {
         return;
     }
-    let at = 4 * (seat as usize - 1);
     io::print_decimal(STDOUT_FILENO, seat as u64);
-    print_amount(results[at]);
-    print_amount(results[at + 1]);
-    print_amount(results[at + 2]);
-    print_amount(results[at + 3]);
+    print_amounts(seat as usize - 1, results);
     io::write_all(STDOUT_FILENO, b"\n");
 }
 
 // The playing seats are those that have a seat record, and these come by rising numbers.
-fn print_seats(file: [u8; 544], results: [u64; 28]) {
-    for i in 0..34 {
+fn print_seats(file: [u8; HELD_BYTES], results: [u64; RESULTS]) {
+    for i in 0..HELD {
         if file[16 * i] == 2 {
             print_seat(file[16 * i + 1], results);
         }
@@ -93,10 +105,10 @@ fn print_refused(number: u8, place: usize) {
 }
 
 fn main() {
-    let mut file = [0u8; 544];
+    let mut file = [0u8; HELD_BYTES];
     let n = io::read_full(STDIN_FILENO, &mut file);
     let more = after(n);
-    let mut results = [0u64; 28];
+    let mut results = [0u64; RESULTS];
     match settle_prefix(&file[..n], more, &mut results) {
         FileSettlement::Paid { full, paid } => {
             print_seats(file, results);

@@ -1,44 +1,22 @@
 -- The answers of the entries and what the lent list then holds, case by case.
 -- Assumes nothing.
-use Prim.Native.Nat.{ℕ, _≤_}
+use Prim.Native.Nat.{ℕ}
 use mathlib.Core.Path.{_≡_, refl, subst}
 use mathlib.Core.Bool.{Bool, true, false}
 use mathlib.Core.List.{List}
-use native.Mathlib.Omega.{arith}
 use lib.Dec.{eqb}
 use lib.ListN.{length}
 use borrow.Author.Tests.{eq-eqb, ne-eqb}
-use Rattle.counting.specs.Count.{total}
-use Rattle.counting.proofs.Gathers.{each-length}
 use Rattle.round.specs.declared.Round.{Round}
 use Rattle.round.specs.Order.{isFinished}
-use Rattle.led.specs.Led.{Led}
 use Rattle.led.specs.Held.{isHeld}
-use Rattle.led.proofs.Kept.{led-held}
-use Rattle.led.proofs.Exact.{held-led}
 use Rattle.held.specs.Take.{Decides}
-use Rattle.pool.proofs.Laws.{fit-total}
-use Rattle.amounts.specs.Base.{win, wins}
 use Rattle.reading.specs.declared.Reading.{Reading}
-use Rattle.reading.specs.File.{readFile, readPrefix}
-use Rattle.reading.proofs.Readings.{read-held, read-long}
-use Rattle.reading.proofs.Prefix.{prefix-held, prefix-long}
+use Rattle.results.specs.Results.{pool, resultsLong, results}
 use Rattle.settlement.specs.declared.Settlement.{Settlement}
 use Rattle.settlement.specs.declared.Settlement.the-variants.{Paid, Refused}
 use Rattle.settlement.specs.declared.FileSettlement.the-variants.{Refused as RefusedFile}
-use Rattle.settlement.specs.Results.{shares, resultsLong, results}
 use Rattle.settlement.specs.Settle.{settleRefusal, settleAnswer, settleList, atPlace, readAnswer, readList}
-use Rattle.settlement.proofs.Results.{shares-within, settles}
-
--- ---- the pool's totals are small
-
-module _ (r : Round) (l : Led r) where
-  pub wins-total : total (wins r) ≤ 3500000
-  unfolding wins
-  wins-total = omega (arith, fit-total (wins r) (settles r l .0), each-length (win r) 7)
-
-  pub shares-total : total (shares r) ≤ 3500000
-  shares-total = omega (arith, shares-within r, settles r l .1)
 
 -- ---- a round
 
@@ -51,19 +29,18 @@ module _ (r : Round) (lent : List ℕ) where
   unfolding settleRefusal settleAnswer settleList
   not-held h = (simp h, simp h)
 
-  module _ (l : Led r) where
+  module _ (h : isHeld r ≡ true) where
     pub wrong-room : (length lent ≡ resultsLong → ⊥) → Settles (Refused 1) lent
     unfolding settleRefusal settleAnswer settleList
-    wrong-room n = (simp (led-held r l, ne-eqb (length lent) 28 n), simp (led-held r l, ne-eqb (length lent) 28 n))
+    wrong-room n = (simp (h, ne-eqb (length lent) resultsLong n), simp (h, ne-eqb (length lent) resultsLong n))
 
     pub unfinished : length lent ≡ resultsLong → isFinished r ≡ false → Settles (Refused 16) lent
     unfolding settleRefusal settleAnswer settleList
-    unfinished e f = (simp (led-held r l, e, f), simp (led-held r l, e, f))
+    unfinished e f = (simp (h, e, f), simp (h, e, f))
 
-    pub all-paid : length lent ≡ resultsLong → isFinished r ≡ true → (new : List ℕ) → new ≡ results r
-        → Settles (Paid (total (wins r)) (total (shares r))) new
+    pub all-paid : length lent ≡ resultsLong → isFinished r ≡ true → (new : List ℕ) → new ≡ results r → Settles (Paid (pool r .full) (pool r .paid)) new
     unfolding settleRefusal settleAnswer settleList
-    all-paid e f new q = (simp (led-held r l, e, f), simp (led-held r l, e, f) q)
+    all-paid e f new q = (simp (h, e, f), simp (h, e, f) q)
 
 -- the test in these answers is true of exactly the led rounds
 pub decided : (r : Round) (t : Bool) → Decides r t → Decides r (isHeld r)
@@ -72,12 +49,12 @@ decided r t d = subst (λ (b : Bool). Decides r b) (d .test) d
 -- ---- a file
 
 module _ (w : Reading) (lent : List ℕ) where
-  pub read-room : Led (w .round) → (length lent ≡ resultsLong → ⊥) → (RefusedFile 1 0 ≡ readAnswer w (length lent)) × (lent ≡ readList w lent)
+  pub read-room : isHeld (w .round) ≡ true → (length lent ≡ resultsLong → ⊥) → (RefusedFile 1 0 ≡ readAnswer w (length lent)) × (lent ≡ readList w lent)
   unfolding readAnswer readList
-  read-room l n = (simp (ne-eqb (length lent) 28 n), go (eqb (w .number) 0) refl)
+  read-room h n = (simp (ne-eqb (length lent) resultsLong n), go (eqb (w .number) 0) refl)
     where
       go : (b : Bool) → eqb (w .number) 0 ≡ b → lent ≡ readList w lent
-      go true e = simp e (wrong-room (w .round) lent l n .1)
+      go true e = simp e (wrong-room (w .round) lent h n .1)
       go false e = simp e
 
   pub read-refused : length lent ≡ resultsLong → (w .number ≡ 0 → ⊥)
@@ -88,11 +65,4 @@ module _ (w : Reading) (lent : List ℕ) where
   pub read-settled : length lent ≡ resultsLong → w .number ≡ 0 → (answer : Settlement) (new : List ℕ) → Settles (w .round) lent answer new
       → (atPlace (w .place) answer ≡ readAnswer w (length lent)) × (new ≡ readList w lent)
   unfolding readAnswer readList
-  read-settled e z answer new s = (simp (s .0, z, eq-eqb (length lent) 28 e), simp z (s .1))
-
--- what was read of a file is a round that accepted records lead to
-pub read-led : (l : List ℕ) → Led (readFile l .round)
-read-led l = held-led (readFile l .round) (read-long l) (read-held l)
-
-pub prefix-led : (first : List ℕ) (after : ℕ) → Led (readPrefix first after .round)
-prefix-led first after = held-led (readPrefix first after .round) (prefix-long first after) (prefix-held first after)
+  read-settled e z answer new s = (simp (s .0, z, eq-eqb (length lent) resultsLong e), simp z (s .1))

@@ -1,4 +1,1 @@
-pub mod Results
-pub mod Judging
-pub mod Filling
 pub mod Answers

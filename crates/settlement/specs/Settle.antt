@@ -6,18 +6,16 @@ use mathlib.Core.List.{List}
 use lib.Dec.{eqb}
 use lib.ListN.{length}
 use Rattle.counting.specs.Choose.{if_then_else_}
-use Rattle.counting.specs.Count.{total}
 use Rattle.round.specs.declared.Round.{Round}
 use Rattle.round.specs.Order.{isFinished}
 use Rattle.led.specs.Held.{isHeld}
 use Rattle.reading.specs.declared.Reading.{Reading}
 use Rattle.reading.specs.File.{readFile, readPrefix}
-use Rattle.amounts.specs.Base.{wins}
+use Rattle.results.specs.Results.{pool, resultsLong, results}
 use Rattle.settlement.specs.declared.Settlement.{Settlement}
 use Rattle.settlement.specs.declared.Settlement.the-variants.{Paid, Refused}
 use Rattle.settlement.specs.declared.FileSettlement.{FileSettlement}
 use Rattle.settlement.specs.declared.FileSettlement.the-variants.{Paid as PaidFile, Refused as RefusedFile}
-use Rattle.settlement.specs.Results.{shares, resultsLong, results}
 
 -- ---- a held round
 
@@ -34,7 +32,7 @@ settleRefusal r room =
 unfoldable pub settleAnswer : Round → ℕ → Settlement
 settleAnswer r room =
     if not (eqb (settleRefusal r room) 0) then Refused (settleRefusal r room)
-    else Paid (total (wins r)) (total (shares r))
+    else Paid (pool r .full) (pool r .paid)
 
 -- A refusal changes no lent list.
 unfoldable pub settleList : Round → List ℕ → List ℕ

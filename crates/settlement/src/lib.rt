@@ -1,32 +1,21 @@
-// Settling: the amounts of a finished round, in a results list that the caller lends.
+// Settling: the results of a finished round, in a list that the caller lends.
 //
 // settle takes a round that a pad holds; settle_file and settle_prefix take a file of its records. Each answers every input and has no `requires`:
 // specs/Settle.antt says what is answered and what the lent list then holds. The results are worked out by value, without a heap, and
-// copied into the lent list once; a refusal is known before, and changes nothing there. specs/Results.antt has the pool and the results list.
-use amounts::base_wager;
-use amounts::bases_of;
-use amounts::board_pay_of;
-use amounts::lo_amount;
-use amounts::pocket_amount;
-use counting::at7;
+// copied into the lent list once; a refusal is known before, and changes nothing there.
 use held::is_held;
-use odds::Pay;
-use odds::handed_back;
 use reading::Reading;
 use reading::read_file;
 use reading::read_prefix;
+use results::RESULTS;
+use results::results_of;
 use round::Round;
 ghost use mathlib.Core.Path.{_≡_};
 ghost use mathlib.Core.Bool.{true};
-ghost use Prim.Native.Nat.{_*_, _≤_, _<_};
 ghost use lib.ListN.{length};
-ghost use Rattle.counting.specs.Count.{total};
-ghost use Rattle.pool.specs.Pool.{winsFit, sharesOf};
-ghost use Rattle.led.specs.Led.{Led};
 ghost use Rattle.led.specs.Held.{isHeld};
 ghost use Rattle.held.specs.Take.{Decides};
-ghost use Rattle.amounts.specs.Base.{wins};
-ghost use Rattle.settlement.specs.Results.{maximum, baseAmount, judgedOf, amountsOf, withSeat, results};
+ghost use Rattle.results.specs.Results.{resultsLong};
 ghost use Rattle.settlement.specs.Settle.{settleAnswer, settleList, atPlace, readAnswer, readList, fileAnswer, fileList, prefixAnswer, prefixList};
 
 // The answer to a held round.
@@ -45,118 +34,6 @@ pub enum FileSettlement {
     Refused { number: u8, place: usize },
 }
 
-// What is worked out once for all seats: the wins in the pool, what comes back besides, the shares, and what the Board pays.
-pub struct Judged {
-    pub wins: [u64; 7],
-    pub kept: [u64; 7],
-    pub shares: [u64; 7],
-    pub board: Pay,
-}
-
-// The four amounts of a seat.
-pub struct Amounts {
-    pub base: u64,
-    pub board: u64,
-    pub pocket: u64,
-    pub lo: u64,
-}
-
-// The shares of seven wins; a seat that has no win in the pool has a win of 0.
-fn shares_of(wins: [u64; 7], maximum: u64) -> [u64; 7]
-    requires { ⌜ (winsFit wins ≡ true) × (maximum ≤ 75000) ⌝ }
-    ensures { λ r. ⌜ r ≡ sharesOf maximum wins ⌝ }
-{
-    let mut shares = [0u64; 7];
-    pool::share(&wins, maximum, &mut shares);
-    shares
-}
-
-fn total_of(row: [u64; 7]) -> u64
-    requires { ⌜ total row ≤ 3500000 ⌝ }
-    ensures { λ r. ⌜ r ≡ total row ⌝ }
-{
-    let mut sum = 0;
-    let mut k = 0;
-    while k < 7 {
-        sum += row[k];
-        k += 1;
-    }
-    sum
-}
-
-fn judge(round: Round) -> Judged
-    requires { ⌜ (winsFit (wins round) ≡ true) × (maximum (round .table) ≤ 75000) ⌝ }
-    ensures { λ r. ⌜ r ≡ judgedOf round ⌝ }
-{
-    let bases = bases_of(round);
-    let wins = bases.wins;
-    let kept = bases.kept;
-    let shares = shares_of(wins, 5000 * (round.table.smallest as u64));
-    let board = board_pay_of(round);
-    Judged {
-        wins,
-        kept,
-        shares,
-        board,
-    }
-}
-
-// In the pool the wager and the share, else what was kept.
-fn base_amount(round: Round, judged: Judged, k: u8) -> u64
-    requires { ⌜ (k < 7) × (judged ≡ judgedOf round) × (maximum (round .table) ≤ 75000) ⌝ }
-    ensures { λ r. ⌜ r ≡ baseAmount round k ⌝ }
-{
-    let at = k as usize;
-    if 0 < judged.wins[at] {
-        return 100 * (base_wager(round, k) as u64 + judged.shares[at]);
-    }
-    judged.kept[at]
-}
-
-fn amounts_of(round: Round, judged: Judged, k: u8) -> Amounts
-    requires { ⌜ (k < 7) × (judged ≡ judgedOf round) × (maximum (round .table) ≤ 75000) ⌝ }
-    ensures { λ r. ⌜ r ≡ amountsOf round k ⌝ }
-{
-    let placed = round.wagers.board;
-    let pay = judged.board;
-    let base = base_amount(round, judged, k);
-    let board = handed_back(pay, at7(placed, k as usize) as u32);
-    let pocket = pocket_amount(round, k);
-    let lo = lo_amount(round, k);
-    Amounts {
-        base,
-        board,
-        pocket,
-        lo,
-    }
-}
-
-// The results list with the amounts of the seat at place `k`.
-fn with_seat(mut out: [u64; 28], k: usize, seat: Amounts) -> [u64; 28]
-    requires { ⌜ k < 7 ⌝ }
-    ensures { λ r. ⌜ r ≡ withSeat out k seat ⌝ }
-{
-    out[4 * k] = seat.base;
-    out[4 * k + 1] = seat.board;
-    out[4 * k + 2] = seat.pocket;
-    out[4 * k + 3] = seat.lo;
-    out
-}
-
-fn results_of(round: Round, judged: Judged) -> [u64; 28]
-    requires { ⌜ (judged ≡ judgedOf round) × (maximum (round .table) ≤ 75000) ⌝ }
-    ensures { λ r. ⌜ r ≡ results round ⌝ }
-{
-    let mut out = [0u64; 28];
-    let mut k = 0;
-    while k < 7 {
-        let next = with_seat(out, k, amounts_of(round, judged, k as u8));
-        out = next;
-        k += 1;
-    }
-    out
-}
-
 // A list copied into one as long.
 fn copy(from: &[u64], to: &mut [u64])
     requires { ⌜ length (now from) ≡ length (now to) ⌝ }
@@ -169,26 +46,22 @@ fn copy(from: &[u64], to: &mut [u64])
     }
 }
 
-// A round that accepted records lead to: 1, then 16.
-fn settle_led(round: Round, results: &mut [u64]) -> Settlement
-    requires { ⌜ Led round ⌝ }
+// A round that may be held, and a list of the right length: 16, or its results.
+fn settle_held(round: Round, results: &mut [u64]) -> Settlement
+    requires { ⌜ (isHeld round ≡ true) × (length (now results) ≡ resultsLong) ⌝ }
     ensures answer { λ r. ⌜ r ≡ settleAnswer round (length (now (results .entry))) ⌝ }
     ensures list { λ r. ⌜ now (results .exit) ≡ settleList round (now (results .entry)) ⌝ }
 {
-    if results.len() != 28 {
-        return Settlement::Refused(1);
-    }
     if !round.is_finished() {
         return Settlement::Refused(16);
     }
-    let judged = judge(round);
-    let out = results_of(round, judged);
-    let wins = judged.wins;
-    let shares = judged.shares;
-    let full = total_of(wins);
-    let paid = total_of(shares);
-    copy(&out, results);
-    Settlement::Paid { full, paid }
+    let settled = results_of(round);
+    let amounts = settled.amounts;
+    copy(&amounts, results);
+    Settlement::Paid {
+        full: settled.full,
+        paid: settled.paid,
+    }
 }
 
 // Settles a round that a pad holds: 17, 1, 16.
@@ -200,7 +73,10 @@ pub fn settle(round: Round, results: &mut [u64]) -> Settlement
     if !is_held(round) {
         return Settlement::Refused(17);
     }
-    settle_led(round, results)
+    if results.len() != RESULTS {
+        return Settlement::Refused(1);
+    }
+    settle_held(round, results)
 }
 
 fn at_place(place: usize, settlement: Settlement) -> FileSettlement
@@ -214,11 +90,11 @@ fn at_place(place: usize, settlement: Settlement) -> FileSettlement
 
 // What was read of a file.
 fn settle_reading(reading: Reading, results: &mut [u64]) -> FileSettlement
-    requires { ⌜ Led (reading .round) ⌝ }
+    requires { ⌜ isHeld (reading .round) ≡ true ⌝ }
     ensures answer { λ r. ⌜ r ≡ readAnswer reading (length (now (results .entry))) ⌝ }
     ensures list { λ r. ⌜ now (results .exit) ≡ readList reading (now (results .entry)) ⌝ }
 {
-    if results.len() != 28 {
+    if results.len() != RESULTS {
         return FileSettlement::Refused {
             number: 1,
             place: 0,
@@ -229,7 +105,7 @@ fn settle_reading(reading: Reading, results: &mut [u64]) -> FileSettlement
     if number != 0 {
         return FileSettlement::Refused { number, place };
     }
-    let settlement = settle_led(reading.round, results);
+    let settlement = settle_held(reading.round, results);
     at_place(place, settlement)
 }
 

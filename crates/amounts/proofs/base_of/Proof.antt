@@ -21,12 +21,12 @@ base-pay-requires c κs = search needs
 base-wager-requires : tie.Need-base-wager-requires
 base-wager-requires c κs = search needs
 
-judged-requires : tie.Need-judged-requires
-judged-requires c κs = search needs
+base-at-requires : tie.Need-base-at-requires
+base-at-requires c κs = search needs
 
 returns-2 : tie.Need-returns-2
 unfolding pooled win kept basePayOf
-returns-2 c = simp (c .judged .ensures, c .before .base-wager .ensures, c .before .before .base-pay .ensures, c .before .before .before .hand-of .ensures, sym (c .before .before .before .before .before .is-in .ensures) ∙ not-false _ (c .before .before .before .before .if1 .left))
+returns-2 c = simp (c .base-at .ensures, c .before .base-wager .ensures, c .before .before .base-pay .ensures, c .before .before .before .hand-of .ensures, sym (c .before .before .before .before .before .is-in .ensures) ∙ not-false _ (c .before .before .before .before .if1 .left))
 
 pub base-of-spec : {M : Type 1} → statement M
 base-of-spec =
@@ -37,5 +37,5 @@ base-of-spec =
     hand-of-requires
     base-pay-requires
     base-wager-requires
-    judged-requires
+    base-at-requires
     returns-2)

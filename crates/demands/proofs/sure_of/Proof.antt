@@ -16,17 +16,14 @@ maximum-of-requires c κs = search needs
 other-win-requires : tie.Need-other-win-requires
 other-win-requires c κs = search needs
 
-cast-part : tie.Need-cast-part
-cast-part c = search needs
-
 mul-part : tie.Need-mul-part
 mul-part c =
-    let few : c .before .maximum-of .result ≤ 4294967295 = search needs in
+    let few : c .before .maximum-of .result ≤ 1275000 = omega (arith, c .before .maximum-of .ensures) in
     let low : c .before .before .before .args .win ≤ 4294967295 = search needs in
     omega (arith, mul-le-mul few low)
 
-cast-part-2 : tie.Need-cast-part-2
-cast-part-2 c = search needs
+cast-part : tie.Need-cast-part
+cast-part c = search needs
 
 add-part : tie.Need-add-part
 add-part c = search needs
@@ -48,9 +45,8 @@ sure-of-spec =
     returns
     maximum-of-requires
     other-win-requires
-    cast-part
     mul-part
-    cast-part-2
+    cast-part
     add-part
     div-part
     least-requires

@@ -3,7 +3,7 @@ use mathlib.Core.Path.{refl}
 use native.Mathlib.Omega.{arith}
 use lib.ListN.{length}
 use denote.Ref.{now}
-use Rattle.counting.proofs.Gathers.{Filled, fill-none, fill-more, filled}
+use Rattle.counting.proofs.Fills.{Filled, fill-none, fill-more, filled}
 use borrow.Author.Needs.{needs}
 use Rattle.settlement.proofs.copy.Statement.{statement}
 use Rattle.settlement.proofs.copy.Tie as tie

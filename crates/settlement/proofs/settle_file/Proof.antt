@@ -1,4 +1,4 @@
-use Rattle.settlement.proofs.Answers.{read-led}
+use Rattle.reading.proofs.Readings.{read-held}
 use borrow.Author.Needs.{needs}
 use Rattle.settlement.proofs.settle_file.Statement.{statement}
 use Rattle.settlement.proofs.settle_file.Tie as tie
@@ -7,7 +7,7 @@ read-file-requires : tie.Need-read-file-requires
 read-file-requires c κs = search needs
 
 settle-reading-requires : tie.Need-settle-reading-requires
-settle-reading-requires c κs = rw (c .before .read-file .ensures) (read-led _)
+settle-reading-requires c κs = rw (c .before .read-file .ensures) (read-held _)
 
 same-length : tie.Need-same-length
 same-length c = search needs

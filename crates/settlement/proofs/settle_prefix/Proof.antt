@@ -1,4 +1,4 @@
-use Rattle.settlement.proofs.Answers.{prefix-led}
+use Rattle.reading.proofs.Prefix.{prefix-held}
 use borrow.Author.Needs.{needs}
 use Rattle.settlement.proofs.settle_prefix.Statement.{statement}
 use Rattle.settlement.proofs.settle_prefix.Tie as tie
@@ -7,7 +7,7 @@ read-prefix-requires : tie.Need-read-prefix-requires
 read-prefix-requires c κs = search needs
 
 settle-reading-requires : tie.Need-settle-reading-requires
-settle-reading-requires c κs = rw (c .before .read-prefix .ensures) (prefix-led _ _)
+settle-reading-requires c κs = rw (c .before .read-prefix .ensures) (prefix-held _ _)
 
 same-length : tie.Need-same-length
 same-length c = search needs

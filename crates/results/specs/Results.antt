@@ -1,4 +1,4 @@
--- The pool and the results list of a round. Wins, shares and the maximum are dollars, amounts are cents.
+-- The pool and the results list of a round. The maximum and the pool are dollars, amounts are cents.
 -- Assumes nothing.
 use Prim.Native.Nat.{ℕ, _+_, _*_}
 use mathlib.Core.List.{List, [], _∷_}
@@ -6,22 +6,25 @@ use lib.ListN.{getD, set}
 use Rattle.counting.specs.Count.{gather, each}
 use Rattle.seating.specs.declared.Table.{Table}
 use Rattle.round.specs.declared.Round.{Round}
-use Rattle.pool.specs.Pool.{sharesOf}
+use Rattle.pool.specs.declared.Pool.{Pool}
+use Rattle.pool.specs.Pool.{poolOf}
 use Rattle.amounts.specs.Base.{wins, kept}
 use Rattle.amounts.specs.Sides.{boardPayOf, boardAmount, pocketAmount, loAmount}
-use Rattle.settlement.specs.declared.Judged.{Judged}
-use Rattle.settlement.specs.declared.Amounts.{Amounts}
+use Rattle.results.specs.declared.Results.{Results}
+use Rattle.results.specs.declared.Judged.{Judged}
+use Rattle.results.specs.declared.Amounts.{Amounts}
 
 -- The round maximum is 5,000 × the smallest ante.
 abbrev pub maximum : Table → ℕ
 maximum t = 5000 * t .smallest
 
-unfoldable pub shares : Round → List ℕ
-shares r = sharesOf (maximum (r .table)) (wins r)
+-- the round's wins, shared
+unfoldable pub pool : Round → Pool
+pool r = poolOf (wins r) (maximum (r .table))
 
 -- Wagers come back besides the share. A seat that has no win in the pool has no share of it.
 unfoldable pub baseAmount : Round → ℕ → ℕ
-baseAmount r k = kept r k + 100 * getD (shares r) k 0
+baseAmount r k = kept r k + 100 * getD (pool r .shares) k 0
 
 -- how many amounts a seat has
 abbrev pub seatWagers : ℕ
@@ -33,14 +36,16 @@ seatAmounts r k = baseAmount r k ∷ boardAmount r k ∷ pocketAmount r k ∷ lo
 
 -- The results list has 28 numbers: four a seat, seats 1 to 7.
 abbrev pub resultsLong : ℕ
-resultsLong = 7 * seatWagers
+resultsLong = seatWagers * 7
 
 unfoldable pub results : Round → List ℕ
 results r = gather 7 (seatAmounts r)
 
+-- ---- the same as the code hands it on
+
 -- what is worked out once for all seats, and the amounts of one
 abbrev pub judgedOf : Round → Judged
-judgedOf r = record { wins = wins r; kept = each 7 (kept r); shares = shares r; board = boardPayOf r }
+judgedOf r = record { wins = wins r; kept = each 7 (kept r); pool = pool r; board = boardPayOf r }
 
 abbrev pub amountsOf : Round → ℕ → Amounts
 amountsOf r k = record { base = baseAmount r k; board = boardAmount r k; pocket = pocketAmount r k; lo = loAmount r k }
@@ -49,3 +54,7 @@ amountsOf r k = record { base = baseAmount r k; board = boardAmount r k; pocket 
 abbrev pub withSeat : List ℕ → ℕ → Amounts → List ℕ
 withSeat l k a =
     set (set (set (set l (seatWagers * k) (a .base)) (seatWagers * k + 1) (a .board)) (seatWagers * k + 2) (a .pocket)) (seatWagers * k + 3) (a .lo)
+
+-- the pool, full and as paid, and the results list
+abbrev pub resultsOf : Round → Results
+resultsOf r = record { full = pool r .full; paid = pool r .paid; amounts = results r }

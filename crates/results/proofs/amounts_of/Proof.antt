@@ -1,7 +1,7 @@
 use Rattle.amounts.specs.Sides.{boardAmount}
 use borrow.Author.Needs.{needs}
-use Rattle.settlement.proofs.amounts_of.Statement.{statement}
-use Rattle.settlement.proofs.amounts_of.Tie as tie
+use Rattle.results.proofs.amounts_of.Statement.{statement}
+use Rattle.results.proofs.amounts_of.Tie as tie
 
 base-amount-requires : tie.Need-base-amount-requires
 base-amount-requires c κs = search needs

@@ -1,7 +1,7 @@
 use mathlib.Core.Path.{sym, _∙_}
 use borrow.Author.Needs.{needs}
-use Rattle.amounts.proofs.judged.Statement.{statement}
-use Rattle.amounts.proofs.judged.Tie as tie
+use Rattle.amounts.proofs.base_at.Statement.{statement}
+use Rattle.amounts.proofs.base_at.Tie as tie
 
 is-above-fifty-requires : tie.Need-is-above-fifty-requires
 is-above-fifty-requires c κs = search needs
@@ -21,8 +21,8 @@ handed-back-requires c κs = search needs
 returns-2 : tie.Need-returns-2
 returns-2 c = simp (c .handed-back .ensures, sym (c .before .before .is-above-fifty .ensures) ∙ c .before .if1 .left)
 
-pub judged-spec : {M : Type 1} → statement M
-judged-spec =
+pub base-at-spec : {M : Type 1} → statement M
+base-at-spec =
     tie.close
     (tie.spec
     is-above-fifty-requires

@@ -7,23 +7,20 @@ use lib.ListN.{getD}
 use Rattle.counting.proofs.Gathers.{each-at}
 use Rattle.round.specs.declared.Round.{Round}
 use Rattle.amounts.specs.Base.{baseWager, kept}
-use Rattle.settlement.specs.declared.Judged.{Judged}
-use Rattle.settlement.specs.Results.{maximum, judgedOf, baseAmount}
-use Rattle.settlement.proofs.Results.{win-at, share-le, base-none, base-some}
+use Rattle.results.specs.declared.Judged.{Judged}
+use Rattle.results.specs.Results.{judgedOf, baseAmount}
+use Rattle.results.proofs.Places.{win-at, share-small, base-none, base-some}
 
 module _ (r : Round) (j : Judged) (k : ℕ) (h : k < 7) (e : j ≡ judgedOf r) where
-  abbrev there : (Judged → ℕ) → Type 0
-  there part = part j ≡ part (judgedOf r)
-
-  pub share-there : getD (j .shares) k 0 ≤ maximum (r .table)
-  share-there = let s : there (λ i. getD (i .shares) k 0) = ap (λ (i : Judged). getD (i .shares) k 0) e in omega (arith, share-le r k)
+  pub share-there : getD (j .pool .shares) k 0 ≤ 75000
+  share-there = rw e (share-small r k)
 
   win-there : getD (j .wins) k 0 ≡ getD (judgedOf r .wins) k 0
   win-there = ap (λ (i : Judged). getD (i .wins) k 0) e
 
-  pub base-with : 0 < getD (j .wins) k 0 → 100 * (baseWager r k + getD (j .shares) k 0) ≡ baseAmount r k
+  pub base-with : 0 < getD (j .wins) k 0 → 100 * (baseWager r k + getD (j .pool .shares) k 0) ≡ baseAmount r k
   base-with p =
-      ap (λ (i : Judged). 100 * (baseWager r k + getD (i .shares) k 0)) e
+      ap (λ (i : Judged). 100 * (baseWager r k + getD (i .pool .shares) k 0)) e
       ∙ base-some r k (omega (arith, win-there, win-at r k h))
 
   pub base-without : getD (j .wins) k 0 ≤ 0 → getD (j .kept) k 0 ≡ baseAmount r k

@@ -2,16 +2,16 @@ use Prim.Native.Nat.{_-_, _≤_}
 use mathlib.Core.Path.{refl}
 use native.Mathlib.Omega.{arith}
 use lib.ListN.{replicate}
-use Rattle.settlement.proofs.Filling.{Seats, no-seats, next-seat, all-seats}
+use Rattle.results.proofs.Filling.{Seats, no-seats, next-seat, all-seats}
 use borrow.Author.Needs.{needs}
-use Rattle.settlement.proofs.results_of.Statement.{statement}
-use Rattle.settlement.proofs.results_of.Tie as tie
+use Rattle.results.proofs.list_of.Statement.{statement}
+use Rattle.results.proofs.list_of.Tie as tie
 
 abbrev Inv-loop : tie.InvT-loop
-Inv-loop round judged out₀ k₀ out k = (k ≤ 7) × Seats round out k
+Inv-loop round judged list₀ k₀ list k = (k ≤ 7) × Seats round list k
 
 abbrev μ-loop : tie.MeasureT-loop
-μ-loop round judged out₀ k₀ out k = 7 - k
+μ-loop round judged list₀ k₀ list k = 7 - k
 
 loop-holds : tie.Need-loop-holds Inv-loop μ-loop
 loop-holds c = (search needs, no-seats (c .args .round) (replicate 28 0) refl)
@@ -20,7 +20,7 @@ cast-amounts-of : tie.Need-cast-amounts-of Inv-loop μ-loop
 cast-amounts-of c = search needs
 
 amounts-of-requires : tie.Need-amounts-of-requires Inv-loop μ-loop
-amounts-of-requires c κs = (c .loop-test .taken, c .before .before .pre .0, c .before .before .pre .1)
+amounts-of-requires c κs = (c .loop-test .taken, c .before .before .pre)
 
 with-seat-requires : tie.Need-with-seat-requires Inv-loop μ-loop
 with-seat-requires c κs = c .before .loop-test .taken
@@ -39,8 +39,8 @@ loop-again c =
 returns : tie.Need-returns Inv-loop μ-loop
 returns c = all-seats _ _ _ (c .before .loop .inv .1) (c .loop-test .left)
 
-pub results-of-spec : {M : Type 1} → statement M
-results-of-spec =
+pub list-of-spec : {M : Type 1} → statement M
+list-of-spec =
     tie.close
     (tie.spec
     Inv-loop

@@ -1,8 +1,8 @@
 use native.Mathlib.Omega.{arith}
-use Rattle.settlement.proofs.Judging.{share-there, base-with, base-without}
+use Rattle.results.proofs.Judging.{share-there, base-with, base-without}
 use borrow.Author.Needs.{needs}
-use Rattle.settlement.proofs.base_amount.Statement.{statement}
-use Rattle.settlement.proofs.base_amount.Tie as tie
+use Rattle.results.proofs.base_amount.Statement.{statement}
+use Rattle.results.proofs.base_amount.Tie as tie
 
 mul-if1 : tie.Need-mul-if1
 mul-if1 c = search needs
@@ -19,39 +19,37 @@ cast-result c = search needs
 mul-result : tie.Need-mul-result
 mul-result c = search needs
 
-element-copy-out-result : tie.Need-element-copy-out-result
-element-copy-out-result c = search needs
+array-read-result : tie.Need-array-read-result
+array-read-result c = search needs
 
 add-result : tie.Need-add-result
 add-result c =
     let a = c .before .before .before .before .args in
     let p = c .before .before .before .before .pre in
-    let s = share-there (a .round) (a .t2) (a .k) (p .0) (p .1) in
-    omega (arith, s, p .2)
+    omega (arith, share-there (a .round) (a .t2) (a .k) (p .0) (p .1))
 
 mul-result-2 : tie.Need-mul-result-2
 mul-result-2 c =
     let a = c .before .before .before .before .args in
     let p = c .before .before .before .before .pre in
-    let s = share-there (a .round) (a .t2) (a .k) (p .0) (p .1) in
-    omega (arith, s, p .2)
+    omega (arith, share-there (a .round) (a .t2) (a .k) (p .0) (p .1))
 
 returns : tie.Need-returns
 returns c =
     let a = c .before .before .before .before .args in
     let p = c .before .before .before .before .pre in
-    rw (c .before .base-wager .ensures) (base-with (a .round) (a .t2) (a .k) (p .0) (p .1) (c .before .before .if1 .taken))
+    rw (c .base-wager .ensures) (base-with (a .round) (a .t2) (a .k) (p .0) (p .1) (c .before .if1 .taken))
 
 mul-result-3 : tie.Need-mul-result-3
 mul-result-3 c = search needs
 
-element-copy-out-result-2 : tie.Need-element-copy-out-result-2
-element-copy-out-result-2 c = search needs
+element-copy-out-result : tie.Need-element-copy-out-result
+element-copy-out-result c = search needs
 
 returns-2 : tie.Need-returns-2
 returns-2 c =
-    let a = c .before .before .before .args in
-    let p = c .before .before .before .pre in
+    let a = c .before .before .before .before .args in
+    let p = c .before .before .before .before .pre in
     base-without (a .round) (a .t2) (a .k) (p .0) (p .1) (c .before .if1 .left)
 
 pub base-amount-spec : {M : Type 1} → statement M
@@ -63,10 +61,10 @@ base-amount-spec =
     base-wager-requires
     cast-result
     mul-result
-    element-copy-out-result
+    array-read-result
     add-result
     mul-result-2
     returns
     mul-result-3
-    element-copy-out-result-2
+    element-copy-out-result
     returns-2)

@@ -1,0 +1,51 @@
+-- The pool of a round that accepted records lead to is within the pool's limits, so it is shared; its shares keep the laws `Shares`, and only
+-- these are used above.
+-- Assumes nothing.
+use Prim.Native.Nat.{ℕ, _≤_}
+use mathlib.Core.Path.{_≡_, refl, ap}
+use mathlib.Core.Bool.{Bool, true, false}
+use native.Mathlib.Omega.{arith}
+use lib.ListN.{length}
+use Rattle.counting.specs.Count.{total}
+use Rattle.counting.proofs.Gathers.{each-length}
+use Rattle.seating.specs.declared.Table.{Table}
+use Rattle.seating.specs.Table.{hasTable, tableFits}
+use Rattle.seating.proofs.Tables.{posted, no-table}
+use Rattle.round.specs.declared.Round.{Round}
+use Rattle.led.specs.Led.{Led}
+use Rattle.led.proofs.Kept.{led-fits}
+use Rattle.pool.specs.declared.Pool.{Pool}
+use Rattle.pool.specs.Shares.{Shares}
+use Rattle.pool.proofs.Shares.{shares-law, fits}
+use Rattle.pool.proofs.Pools.{all-within, allShared, pool-shared}
+use Rattle.amounts.specs.Base.{win, wins}
+use Rattle.results.specs.Results.{maximum, pool}
+use Rattle.pooling.proofs.Pooled.{wins-fit}
+
+smallest-most : (t : Table) → tableFits t ≡ true → t .smallest ≤ 15
+smallest-most t fits = go (hasTable t) refl
+  where
+    go : (b : Bool) → hasTable t ≡ b → t .smallest ≤ 15
+    go true e = posted t fits e .smallest-high
+    go false e = rw (no-table t fits e) (omega arith)
+
+pub wins-long : (r : Round) → length (wins r) ≡ 7
+unfolding wins
+wins-long r = each-length (win r) 7
+
+module _ (r : Round) (l : Led r) where
+  all-shared : pool r ≡ allShared (wins r) (maximum (r .table))
+  unfolding pool
+  all-shared =
+      let most = smallest-most (r .table) (led-fits r l .table) in
+      pool-shared (wins r) (maximum (r .table)) (fits (wins r) (maximum (r .table)) 7 (omega (arith, wins-long r)) (wins-long r) (wins-fit r l) (omega arith))
+
+  -- it is not refused, and these are its totals
+  pub pool-totals : (pool r .number ≡ 0) × (pool r .full ≡ total (wins r)) × (pool r .paid ≡ total (pool r .shares))
+  pool-totals = rw all-shared (refl, refl, refl)
+
+  pub shared : Shares (maximum (r .table)) (wins r) (pool r .shares)
+  shared = rw all-shared (shares-law (maximum (r .table)) (wins r))
+
+  pub shares-within : total (pool r .shares) ≤ maximum (r .table)
+  shares-within = all-within (maximum (r .table)) (wins r) (pool r .shares) shared

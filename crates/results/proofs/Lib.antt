@@ -1,0 +1,3 @@
+pub mod Places
+pub mod Judging
+pub mod Filling

@@ -1,0 +1,50 @@
+use lib.ListN.{length}
+use Rattle.results.proofs.Places.{results-length}
+use mathlib.Core.Path.{ap, sym, _∙_}
+use borrow.Author.Tests.{not-true, not-false}
+use Rattle.results.specs.declared.Results.{Results}
+use Rattle.settlement.proofs.Answers.{unfinished, all-paid}
+use borrow.Author.Needs.{needs}
+use Rattle.settlement.proofs.settle_held.Statement.{statement}
+use Rattle.settlement.proofs.settle_held.Tie as tie
+
+is-finished-requires : tie.Need-is-finished-requires
+is-finished-requires c κs = search needs
+
+returns : tie.Need-returns
+returns c =
+    let p = c .before .before .before .pre in
+    unfinished _ _ (p .0) (p .1) (sym (c .before .is-finished .ensures) ∙ not-true _ (c .if1 .taken))
+
+results-of-requires : tie.Need-results-of-requires
+results-of-requires c κs = search needs
+
+slice-aggregate-copy : tie.Need-slice-aggregate-copy
+slice-aggregate-copy c = search needs
+
+copy-requires : tie.Need-copy-requires
+copy-requires c κs = ap (λ (s : Results). length (s .amounts)) (c .before .before .before .results-of .ensures) ∙ results-length _ ∙ sym (c .before .before .before .before .before .before .before .pre .1)
+
+same-length : tie.Need-same-length
+same-length c = search needs
+
+returns-2 : tie.Need-returns-2
+returns-2 c =
+    let p = c .before .before .before .before .before .before .before .before .before .before .pre in
+    let s = c .before .before .before .before .before .before .results-of .ensures in
+    let full = ap (λ (s : Results). s .full) s in
+    let paid = ap (λ (s : Results). s .paid) s in
+    let list = ap (λ (s : Results). s .amounts) s in
+    rw (full, paid) (all-paid _ _ (p .0) (p .1) (sym (c .before .before .before .before .before .before .before .before .is-finished .ensures) ∙ not-false _ (c .before .before .before .before .before .before .before .if1 .left)) _ (c .before .before .copy .ensures ∙ list))
+
+pub settle-held-spec : {M : Type 1} → statement M
+settle-held-spec =
+    tie.close
+    (tie.spec
+    is-finished-requires
+    returns
+    results-of-requires
+    slice-aggregate-copy
+    copy-requires
+    same-length
+    returns-2)
