@@ -12,9 +12,9 @@ use Rattle.round.specs.declared.Round.{Round}
 use Rattle.holding.specs.Deal.{five}
 use Rattle.names.specs.declared.FiveName.{FiveName}
 use Rattle.names.specs.Five.{nameFive}
-use Rattle.odds.specs.declared.Pay.{Pay}
+use Rattle.pays.specs.declared.Pay.{Pay}
 use Rattle.odds.specs.Pays.{basePay}
-use Rattle.odds.specs.Amounts.{handedBack, aboveFifty, winAt}
+use Rattle.pays.specs.Amounts.{handedBack, aboveFifty, winAt}
 use Rattle.amounts.specs.declared.Base.{Base}
 use Rattle.amounts.specs.declared.Bases.{Bases}
 

@@ -7,9 +7,9 @@ use Rattle.holding.specs.Deal.{hole, community, five}
 use Rattle.names.specs.Board.{nameBoard}
 use Rattle.names.specs.Pocket.{namePocket}
 use Rattle.names.specs.Lo.{nameLo}
-use Rattle.odds.specs.declared.Pay.{Pay}
+use Rattle.pays.specs.declared.Pay.{Pay}
 use Rattle.odds.specs.Pays.{boardPay, pocketPay, loPay}
-use Rattle.odds.specs.Amounts.{handedBack}
+use Rattle.pays.specs.Amounts.{handedBack}
 
 -- what the table's Board pay table says of the community cards, for all seats alike
 unfoldable pub boardPayOf : Round → Pay

@@ -15,8 +15,8 @@ use Rattle.names.specs.Five.{answerFive}
 use Rattle.names.specs.Board.{answerBoard}
 use Rattle.names.specs.Pocket.{answerPocket}
 use Rattle.names.specs.Lo.{answerLo}
-use Rattle.odds.specs.declared.Pay.{Pay}
-use Rattle.odds.specs.declared.Pay.the-variants.{To, Push, Loss, NoTable}
+use Rattle.pays.specs.declared.Pay.{Pay}
+use Rattle.pays.specs.declared.Pay.the-variants.{To, Push, Loss, NoTable}
 use Rattle.odds.specs.Pays.{basePay, pocketPay, loPay}
 use Rattle.pool.specs.Pool.{shareList}
 

@@ -15,11 +15,11 @@ use Rattle.names.specs.declared.FiveName.{FiveName}
 use Rattle.names.specs.declared.FiveName.the-variants.{RoyalFlush, StraightFlush}
 use Rattle.names.specs.Five.{fivePlace}
 use Rattle.names.specs.Top.{isTop}
-use Rattle.odds.specs.declared.Pay.{Pay}
-use Rattle.odds.specs.declared.Pay.the-variants.{To, Loss}
+use Rattle.pays.specs.declared.Pay.{Pay}
+use Rattle.pays.specs.declared.Pay.the-variants.{To, Loss}
 use Rattle.odds.specs.Tables.{baseLines}
 use Rattle.odds.specs.Pays.{payIn, payAt, basePay}
-use Rattle.odds.specs.Amounts.{aboveFifty}
+use Rattle.pays.specs.Amounts.{aboveFifty}
 use Rattle.odds.proofs.Places.{five-below}
 
 same : (a b : Bool) → Bool·beq a b ≡ true → a ≡ b

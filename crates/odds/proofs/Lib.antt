@@ -1,4 +1,3 @@
 pub mod Places
 pub mod Lines
 pub mod Above
-pub mod Amounts

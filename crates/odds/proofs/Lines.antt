@@ -10,8 +10,8 @@ use lib.ListN.{length, getD, length-map, List·getD-map}
 use borrow.Author.Tests.{le-leb, lt-leb, eqb-true}
 use Rattle.counting.specs.Count.{everyBelow}
 use Rattle.counting.proofs.Ranges.{every-at}
-use Rattle.odds.specs.declared.Pay.{Pay}
-use Rattle.odds.specs.declared.Pay.the-variants.{To, ThreeToTwo, Push, Loss, NoTable}
+use Rattle.pays.specs.declared.Pay.{Pay}
+use Rattle.pays.specs.declared.Pay.the-variants.{To, ThreeToTwo, Push, Loss, NoTable}
 use Rattle.odds.specs.Numbers.{saidBy}
 use Rattle.odds.specs.Pays.{payIn, payAt}
 

@@ -1,4 +1,3 @@
 pub mod Tables
 pub mod Pays
-pub mod Amounts
 pub mod Numbers

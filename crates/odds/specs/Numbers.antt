@@ -3,8 +3,8 @@
 use Prim.Native.Nat.{ℕ}
 use lib.Dec.{eqb}
 use Rattle.counting.specs.Choose.{if_then_else_}
-use Rattle.odds.specs.declared.Pay.{Pay}
-use Rattle.odds.specs.declared.Pay.the-variants.{To, ThreeToTwo, Push, Loss}
+use Rattle.pays.specs.declared.Pay.{Pay}
+use Rattle.pays.specs.declared.Pay.the-variants.{To, ThreeToTwo, Push, Loss}
 
 unfoldable pub saidBy : ℕ → Pay
 saidBy number =

@@ -14,8 +14,8 @@ use Rattle.names.specs.declared.LoName.the-variants.{High, Nothing}
 use Rattle.names.specs.Five.{fivePlace}
 use Rattle.names.specs.Board.{boardPlace}
 use Rattle.names.specs.Pocket.{pocketPlace}
-use Rattle.odds.specs.declared.Pay.{Pay}
-use Rattle.odds.specs.declared.Pay.the-variants.{Loss, NoTable}
+use Rattle.pays.specs.declared.Pay.{Pay}
+use Rattle.pays.specs.declared.Pay.the-variants.{Loss, NoTable}
 use Rattle.odds.specs.Tables.{baseLines, loLines, boardLines, pocketLines}
 
 -- What pay table t, numbered from 1, says in a line of a table. What a pay table doesn't list loses.

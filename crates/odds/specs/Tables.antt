@@ -2,8 +2,8 @@
 -- top, and in it a pay table's odds at the place of its number.
 -- Assumes nothing.
 use mathlib.Core.List.{List, [], _∷_}
-use Rattle.odds.specs.declared.Pay.{Pay}
-use Rattle.odds.specs.declared.Pay.the-variants.{To, ThreeToTwo, Push, Loss}
+use Rattle.pays.specs.declared.Pay.{Pay}
+use Rattle.pays.specs.declared.Pay.the-variants.{To, ThreeToTwo, Push, Loss}
 
 unfoldable pub baseLines : List (List Pay)
 baseLines =

@@ -1,15 +1,15 @@
-// The pay tables: what a wager's pay table says of a name, and what that hands back.
+// The pay tables: what a wager's pay table says of a name.
 //
 // The tables are constant arrays, laid out as the rule sheet prints them: a line for each name, and in it the odds of each
 // pay table at the place of its number. base_pay, lo_pay, board_pay and pocket_pay choose by the table's number and
-// answer NoTable where there is none; handed_back gives the cents. No function has a `requires`.
+// answer NoTable where there is none. No function has a `requires`.
 //
 // proofs/Above.antt has the rule that only a royal flush and a straight flush are paid at odds above 50, shown once, over
 // the whole base table.
 ghost use mathlib.Core.Path.{_≡_};
 ghost use mathlib.Core.Bool.{_&&_};
 ghost use mathlib.Core.List.{map};
-ghost use Prim.Native.Nat.{_+_, _*_, _-_, _/_};
+ghost use Prim.Native.Nat.{_-_};
 ghost use lib.Dec.{leb};
 ghost use Rattle.counting.specs.Choose.{if_then_else_};
 ghost use Rattle.names.specs.Five.{fivePlace};
@@ -17,23 +17,11 @@ ghost use Rattle.names.specs.Board.{boardPlace};
 ghost use Rattle.names.specs.Pocket.{pocketPlace};
 ghost use Rattle.odds.specs.Pays.{payIn, loPlace, basePay, loPay, boardPay, pocketPay};
 ghost use Rattle.odds.specs.Numbers.{saidBy};
-ghost use Rattle.odds.specs.Amounts.{handedBack, winAt, aboveFifty};
 use names::BoardName;
 use names::FiveName;
 use names::LoName;
 use names::PocketName;
-
-// What a pay table says of a name.
-pub enum Pay {
-    // A win at these odds to 1.
-    To(u16),
-    // A win at 3 to 2.
-    ThreeToTwo,
-    Push,
-    Loss,
-    // The wager has no pay table of this number.
-    NoTable,
-}
+use pays::Pay;
 
 // The tables hold odds to 1 as they are printed, and these numbers for what is printed in words or as a fraction.
 const THREE_TO_TWO: u16 = 65533;
@@ -207,55 +195,4 @@ pub fn pocket_pay(table: u8, name: PocketName) -> Pay
 {
     let line = POCKET[pocket_place(name)];
     pay_in(&line, table)
-}
-
-// The cents that a win at odds to 1 hands back.
-fn won(odds: u16, wager: u32) -> u64
-    ensures { λ r. ⌜ r ≡ 100 * wager + 100 * (odds * wager) ⌝ }
-{
-    100 * (wager as u64) + 100 * (odds as u64 * wager as u64)
-}
-
-// What is handed back, in cents, of a wager in dollars.
-pub fn handed_back(pay: Pay, wager: u32) -> u64
-    ensures { λ r. ⌜ r ≡ handedBack pay wager ⌝ }
-{
-    match pay {
-        Pay::To(odds) => won(odds, wager),
-        Pay::ThreeToTwo => 100 * (wager as u64) + 150 * (wager as u64),
-        Pay::Push => 100 * (wager as u64),
-        Pay::Loss => 0,
-        Pay::NoTable => 0,
-    }
-}
-
-fn times(odds: u16, wager: u32) -> u64
-    ensures { λ r. ⌜ r ≡ odds * wager ⌝ }
-{
-    odds as u64 * wager as u64
-}
-
-// The win without the wager, in dollars.
-pub fn win_at(pay: Pay, wager: u32) -> u64
-    ensures { λ r. ⌜ r ≡ winAt pay wager ⌝ }
-{
-    match pay {
-        Pay::To(odds) => times(odds, wager),
-        Pay::ThreeToTwo => 3 * (wager as u64) / 2,
-        Pay::Push => 0,
-        Pay::Loss => 0,
-        Pay::NoTable => 0,
-    }
-}
-
-pub fn is_above_fifty(pay: Pay) -> bool
-    ensures { λ r. ⌜ r ≡ aboveFifty pay ⌝ }
-{
-    match pay {
-        Pay::To(odds) => 50 < odds,
-        Pay::ThreeToTwo => false,
-        Pay::Push => false,
-        Pay::Loss => false,
-        Pay::NoTable => false,
-    }
 }

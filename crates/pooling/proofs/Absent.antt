@@ -10,7 +10,7 @@ use Rattle.choosing.specs.Streets.{foldOf}
 use Rattle.round.specs.declared.Round.{Round}
 use Rattle.led.specs.Led.{Led}
 use Rattle.led.proofs.Facts.{led-absent}
-use Rattle.odds.proofs.Amounts.{nothing-back}
+use Rattle.pays.proofs.Amounts.{nothing-back}
 use Rattle.amounts.specs.Base.{staysIn, pooled, win, kept}
 use Rattle.amounts.specs.Sides.{boardAmount, pocketAmount, loAmount}
 

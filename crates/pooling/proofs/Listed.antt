@@ -15,8 +15,8 @@ use Rattle.names.specs.declared.LoName.{LoName}
 use Rattle.names.specs.Five.{fivePlace}
 use Rattle.names.specs.Board.{boardPlace}
 use Rattle.names.specs.Pocket.{pocketPlace}
-use Rattle.odds.specs.declared.Pay.{Pay}
-use Rattle.odds.specs.declared.Pay.the-variants.{To, ThreeToTwo, Push, Loss, NoTable}
+use Rattle.pays.specs.declared.Pay.{Pay}
+use Rattle.pays.specs.declared.Pay.the-variants.{To, ThreeToTwo, Push, Loss, NoTable}
 use Rattle.odds.specs.Tables.{baseLines, loLines, boardLines, pocketLines}
 use Rattle.odds.specs.Pays.{payIn, payAt, loPlace, basePay, loPay, boardPay, pocketPay}
 use Rattle.odds.proofs.Places.{five-below, board-below, pocket-below, lo-below}

@@ -19,7 +19,7 @@ use Rattle.names.specs.declared.FiveName.{FiveName}
 use Rattle.names.specs.declared.FiveName.the-variants.{RoyalFlush, StraightFlush, FourOfAKind, FullHouse, Flush, Straight, ThreeOfAKind, TwoPair, JacksToAces, SixesToTens, Other}
 use Rattle.names.specs.Top.{isRoyal, isTop}
 use Rattle.odds.specs.Pays.{basePay}
-use Rattle.odds.specs.Amounts.{aboveFifty, winAt}
+use Rattle.pays.specs.Amounts.{aboveFifty, winAt}
 use Rattle.odds.proofs.Above.{above-fifty, royal-pays, straight-flush-pays}
 use Rattle.pool.specs.Pool.{winsFit}
 use Rattle.seating.proofs.Tables.{table-high}

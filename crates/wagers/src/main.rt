@@ -9,7 +9,7 @@ use names::BoardAnswer;
 use names::FiveAnswer;
 use names::LoAnswer;
 use names::PocketAnswer;
-use odds::Pay;
+use pays::Pay;
 
 // The entries.
 const FIVE: u8 = 0;
@@ -115,8 +115,8 @@ fn print_next(number: u64) {
 
 // The cents handed back, and whether the odds are above 50.
 fn print_pay(pay: Pay, dollars: u8) {
-    print_next(odds::handed_back(pay, dollars as u32));
-    if odds::is_above_fifty(pay) {
+    print_next(pays::handed_back(pay, dollars as u32));
+    if pays::is_above_fifty(pay) {
         write(b" above 50");
     }
     write(b"\n");

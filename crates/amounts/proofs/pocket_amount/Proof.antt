@@ -1,5 +1,5 @@
 use mathlib.Core.Path.{sym, _∙_}
-use Rattle.odds.proofs.Amounts.{nothing-back}
+use Rattle.pays.proofs.Amounts.{nothing-back}
 use Rattle.amounts.specs.Sides.{pocketAmount}
 use borrow.Author.Needs.{needs}
 use Rattle.amounts.proofs.pocket_amount.Statement.{statement}

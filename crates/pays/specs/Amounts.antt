@@ -3,8 +3,8 @@
 use Prim.Native.Nat.{ℕ, _+_, _*_, _/_}
 use mathlib.Core.Bool.{Bool, false}
 use lib.Dec.{ltb}
-use Rattle.odds.specs.declared.Pay.{Pay}
-use Rattle.odds.specs.declared.Pay.the-variants.{To, ThreeToTwo, Push, Loss, NoTable}
+use Rattle.pays.specs.declared.Pay.{Pay}
+use Rattle.pays.specs.declared.Pay.the-variants.{To, ThreeToTwo, Push, Loss, NoTable}
 
 -- A win hands back the wager and odds × wager; a push the wager; a loss nothing. (A dollar at 3 to 2 wins 150 cents.)
 abbrev pub handedBack : Pay → ℕ → ℕ

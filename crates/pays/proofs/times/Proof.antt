@@ -2,8 +2,8 @@ use Prim.Native.Nat.{_≤_}
 use native.Mathlib.Omega.{arith}
 use native.Mathlib.Nat.{mul-le-mul}
 use borrow.Author.Needs.{needs}
-use Rattle.odds.proofs.times.Statement.{statement}
-use Rattle.odds.proofs.times.Tie as tie
+use Rattle.pays.proofs.times.Statement.{statement}
+use Rattle.pays.proofs.times.Tie as tie
 
 mul-result : tie.Need-mul-result
 mul-result c =

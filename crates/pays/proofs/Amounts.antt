@@ -5,9 +5,9 @@ use Prim.Native.Nat.{ℕ, _+_, _*_, _<_}
 use mathlib.Core.Path.{_≡_, refl}
 use native.Mathlib.Omega.{arith}
 use native.Mathlib.Nat.{add-mul}
-use Rattle.odds.specs.declared.Pay.{Pay}
-use Rattle.odds.specs.declared.Pay.the-variants.{To, ThreeToTwo, Push, Loss, NoTable}
-use Rattle.odds.specs.Amounts.{handedBack}
+use Rattle.pays.specs.declared.Pay.{Pay}
+use Rattle.pays.specs.declared.Pay.the-variants.{To, ThreeToTwo, Push, Loss, NoTable}
+use Rattle.pays.specs.Amounts.{handedBack}
 
 pub win-back : (odds wager : ℕ) → handedBack (To odds) wager ≡ 100 * ((odds + 1) * wager)
 win-back odds wager = rw (add-mul odds 1 wager) (omega arith)

@@ -1,6 +1,6 @@
 use borrow.Author.Needs.{needs}
-use Rattle.odds.proofs.handed_back.Statement.{statement}
-use Rattle.odds.proofs.handed_back.Tie as tie
+use Rattle.pays.proofs.handed_back.Statement.{statement}
+use Rattle.pays.proofs.handed_back.Tie as tie
 
 enum-known-pay : tie.Need-enum-known-pay
 enum-known-pay c = search needs

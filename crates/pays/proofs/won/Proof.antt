@@ -2,8 +2,8 @@ use Prim.Native.Nat.{_*_, _≤_}
 use native.Mathlib.Omega.{arith}
 use native.Mathlib.Nat.{mul-le-mul}
 use borrow.Author.Needs.{needs}
-use Rattle.odds.proofs.won.Statement.{statement}
-use Rattle.odds.proofs.won.Tie as tie
+use Rattle.pays.proofs.won.Statement.{statement}
+use Rattle.pays.proofs.won.Tie as tie
 
 -- odds of a u16 times a wager of a u32
 most : (c : tie.Start) → c .args .odds * c .args .wager ≤ 65535 * 4294967295
