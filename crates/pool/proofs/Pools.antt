@@ -1,6 +1,6 @@
 -- The pool of seven wins by value: refused, or shared; and what holds of its shares in both cases.
 -- Assumes nothing.
-use Prim.Native.Nat.{ℕ, _≤_, _<_}
+use Prim.Native.Nat.{ℕ, _≤_}
 use mathlib.Core.Path.{_≡_, refl}
 use mathlib.Core.Bool.{Bool, true, false}
 use mathlib.Core.List.{List}
@@ -12,7 +12,7 @@ use borrow.Author.Tests.{leb-true, leb-false, ne-eqb, eqb-true, eqb-false}
 use Rattle.counting.specs.Count.{total}
 use Rattle.counting.proofs.Tallies.{total-at}
 use Rattle.pool.specs.declared.Pool.{Pool}
-use Rattle.pool.specs.Pool.{sharesOf, winsFit, shareRefusal, poolOf}
+use Rattle.pool.specs.Pool.{sharesOf, shareRefusal, poolOf}
 use Rattle.pool.specs.Shares.{Shares}
 use Rattle.pool.proofs.Shares.{shares-law, kept}
 

@@ -1,8 +1,8 @@
 -- The pool of a round that accepted records lead to is within the pool's limits, so it is shared; its shares keep the laws `Shares`, and only
 -- these are used above.
 -- Assumes nothing.
-use Prim.Native.Nat.{ℕ, _≤_}
-use mathlib.Core.Path.{_≡_, refl, ap}
+use Prim.Native.Nat.{_≤_}
+use mathlib.Core.Path.{_≡_, refl}
 use mathlib.Core.Bool.{Bool, true, false}
 use native.Mathlib.Omega.{arith}
 use lib.ListN.{length}
@@ -14,7 +14,6 @@ use Rattle.seating.proofs.Tables.{posted, no-table}
 use Rattle.round.specs.declared.Round.{Round}
 use Rattle.led.specs.Led.{Led}
 use Rattle.led.proofs.Kept.{led-fits}
-use Rattle.pool.specs.declared.Pool.{Pool}
 use Rattle.pool.specs.Shares.{Shares}
 use Rattle.pool.proofs.Shares.{shares-law, fits}
 use Rattle.pool.proofs.Pools.{all-within, allShared, pool-shared}

@@ -9,7 +9,6 @@ use Rattle.counting.proofs.Gathers.{gather-length, gather-at, each-at}
 use Rattle.pool.proofs.Pools.{shares-small}
 use Rattle.round.specs.declared.Round.{Round}
 use Rattle.amounts.specs.Base.{baseWager, pooled, win, kept, wins}
-use Rattle.amounts.specs.Sides.{boardAmount, pocketAmount, loAmount}
 use Rattle.results.specs.Results.{maximum, pool, baseAmount, seatWagers, seatAmounts, resultsLong, results}
 
 module _ (r : Round) where

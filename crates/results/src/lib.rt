@@ -78,11 +78,12 @@ fn base_amount(round: Round, judged: Judged, k: u8) -> u64
     ensures { λ r. ⌜ r ≡ baseAmount round k ⌝ }
 {
     let at = k as usize;
+    let kept = judged.kept;
     let shares = judged.pool.shares;
     if 0 < judged.wins[at] {
         return 100 * (base_wager(round, k) as u64 + shares[at]);
     }
-    judged.kept[at]
+    kept[at]
 }
 
 fn amounts_of(round: Round, judged: Judged, k: u8) -> Amounts

@@ -53,7 +53,7 @@ unfolding sharesOf
 returns-2 c =
     let none = rw (c .before .before .before .before .before .before .before .before .before .share-refusal .ensures) at (c .before .before .before .before .before .before .before .before .if1 .left) in
     let shares = rw (c .before .before .before .before .before .before .total-of .ensures) at (c .before .before .before .fill .ensures) in
-    rw (c .total-of2 .ensures, shares, c .before .before .before .before .before .before .total-of .ensures, c .before .before .before .before .before .before .before .before .if1 .left) (sym (pool-shared _ _ none))
+    simp (c .total-of2 .ensures, shares, c .before .before .before .before .before .before .total-of .ensures, c .before .before .before .before .before .before .before .before .if1 .left) (sym (pool-shared _ _ none))
 
 pub pool-of-spec : {M : Type 1} → statement M
 pool-of-spec =

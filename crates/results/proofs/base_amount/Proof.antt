@@ -24,33 +24,33 @@ array-read-result c = search needs
 
 add-result : tie.Need-add-result
 add-result c =
-    let a = c .before .before .before .before .args in
-    let p = c .before .before .before .before .pre in
+    let a = c .before .before .before .before .before .args in
+    let p = c .before .before .before .before .before .pre in
     omega (arith, share-there (a .round) (a .t2) (a .k) (p .0) (p .1))
 
 mul-result-2 : tie.Need-mul-result-2
 mul-result-2 c =
-    let a = c .before .before .before .before .args in
-    let p = c .before .before .before .before .pre in
+    let a = c .before .before .before .before .before .args in
+    let p = c .before .before .before .before .before .pre in
     omega (arith, share-there (a .round) (a .t2) (a .k) (p .0) (p .1))
 
 returns : tie.Need-returns
 returns c =
-    let a = c .before .before .before .before .args in
-    let p = c .before .before .before .before .pre in
+    let a = c .before .before .before .before .before .args in
+    let p = c .before .before .before .before .before .pre in
     rw (c .base-wager .ensures) (base-with (a .round) (a .t2) (a .k) (p .0) (p .1) (c .before .if1 .taken))
 
 mul-result-3 : tie.Need-mul-result-3
 mul-result-3 c = search needs
 
-element-copy-out-result : tie.Need-element-copy-out-result
-element-copy-out-result c = search needs
+array-read-result-2 : tie.Need-array-read-result-2
+array-read-result-2 c = search needs
 
 returns-2 : tie.Need-returns-2
 returns-2 c =
     let a = c .before .before .before .before .args in
     let p = c .before .before .before .before .pre in
-    base-without (a .round) (a .t2) (a .k) (p .0) (p .1) (c .before .if1 .left)
+    base-without (a .round) (a .t2) (a .k) (p .0) (p .1) (c .if1 .left)
 
 pub base-amount-spec : {M : Type 1} → statement M
 base-amount-spec =
@@ -66,5 +66,5 @@ base-amount-spec =
     mul-result-2
     returns
     mul-result-3
-    element-copy-out-result
+    array-read-result-2
     returns-2)

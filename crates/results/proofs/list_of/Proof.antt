@@ -2,6 +2,7 @@ use Prim.Native.Nat.{_-_, _≤_}
 use mathlib.Core.Path.{refl}
 use native.Mathlib.Omega.{arith}
 use lib.ListN.{replicate}
+use Rattle.results.specs.Results.{resultsLong}
 use Rattle.results.proofs.Filling.{Seats, no-seats, next-seat, all-seats}
 use borrow.Author.Needs.{needs}
 use Rattle.results.proofs.list_of.Statement.{statement}
@@ -14,7 +15,7 @@ abbrev μ-loop : tie.MeasureT-loop
 μ-loop round judged list₀ k₀ list k = 7 - k
 
 loop-holds : tie.Need-loop-holds Inv-loop μ-loop
-loop-holds c = (search needs, no-seats (c .args .round) (replicate 28 0) refl)
+loop-holds c = (search needs, no-seats (c .args .round) (replicate resultsLong 0) refl)
 
 cast-amounts-of : tie.Need-cast-amounts-of Inv-loop μ-loop
 cast-amounts-of c = search needs

@@ -3,6 +3,7 @@ use Rattle.results.proofs.Places.{results-length}
 use mathlib.Core.Path.{ap, sym, _∙_}
 use borrow.Author.Tests.{not-true, not-false}
 use Rattle.results.specs.declared.Results.{Results}
+use Rattle.settlement.specs.declared.Settlement.the-variants.{Paid}
 use Rattle.settlement.proofs.Answers.{unfinished, all-paid}
 use borrow.Author.Needs.{needs}
 use Rattle.settlement.proofs.settle_held.Statement.{statement}
@@ -32,10 +33,10 @@ returns-2 : tie.Need-returns-2
 returns-2 c =
     let p = c .before .before .before .before .before .before .before .before .before .before .pre in
     let s = c .before .before .before .before .before .before .results-of .ensures in
-    let full = ap (λ (s : Results). s .full) s in
-    let paid = ap (λ (s : Results). s .paid) s in
-    let list = ap (λ (s : Results). s .amounts) s in
-    rw (full, paid) (all-paid _ _ (p .0) (p .1) (sym (c .before .before .before .before .before .before .before .before .is-finished .ensures) ∙ not-false _ (c .before .before .before .before .before .before .before .if1 .left)) _ (c .before .before .copy .ensures ∙ list))
+    let list = c .before .before .copy .ensures ∙ ap (λ (s : Results). s .amounts) s in
+    let finished = sym (c .before .before .before .before .before .before .before .before .is-finished .ensures) ∙ not-false _ (c .before .before .before .before .before .before .before .if1 .left) in
+    let all = all-paid _ _ (p .0) (p .1) finished _ list in
+    (ap (λ (s : Results). Paid (s .full) (s .paid)) s ∙ all .0, all .1)
 
 pub settle-held-spec : {M : Type 1} → statement M
 settle-held-spec =
