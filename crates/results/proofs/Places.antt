@@ -57,8 +57,13 @@ module _ (r : Round) where
   unfolding results
   results-length = gather-length seatWagers (seatAmounts r) 7 seat-long
 
+  -- amount w of the seat at place k, and the base amount
+  pub amount-at : (k w : ℕ) → k < 7 → w < seatWagers → getD (results r) (seatWagers * k + w) 0 ≡ getD (seatAmounts r k) w 0
+  unfolding results
+  amount-at k w h m = gather-at seatWagers (seatAmounts r) 7 seat-long k w h m
+
   pub base-at : (k : ℕ) → k < 7 → getD (results r) (seatWagers * k) 0 ≡ baseAmount r k
-  unfolding results seatAmounts
+  unfolding seatAmounts
   base-at k h =
       let first : seatWagers * k + 0 ≡ seatWagers * k = omega arith in
-      rw first at (gather-at seatWagers (seatAmounts r) 7 seat-long k 0 h (omega arith))
+      rw first at (amount-at k 0 h (omega arith))

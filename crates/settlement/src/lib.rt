@@ -56,8 +56,7 @@ fn settle_held(round: Round, results: &mut [u64]) -> Settlement
         return Settlement::Refused(16);
     }
     let settled = results_of(round);
-    let amounts = settled.amounts;
-    copy(&amounts, results);
+    copy(&settled.amounts, results);
     Settlement::Paid {
         full: settled.full,
         paid: settled.paid,

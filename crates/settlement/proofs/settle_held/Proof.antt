@@ -1,5 +1,3 @@
-use lib.ListN.{length}
-use Rattle.results.proofs.Places.{results-length}
 use mathlib.Core.Path.{ap, sym, _∙_}
 use borrow.Author.Tests.{not-true, not-false}
 use Rattle.results.specs.declared.Results.{Results}
@@ -20,32 +18,22 @@ returns c =
 results-of-requires : tie.Need-results-of-requires
 results-of-requires c κs = search needs
 
-slice-aggregate-copy : tie.Need-slice-aggregate-copy
-slice-aggregate-copy c = search needs
-
 copy-requires : tie.Need-copy-requires
-copy-requires c κs = ap (λ (s : Results). length (s .amounts)) (c .before .before .before .results-of .ensures) ∙ results-length _ ∙ sym (c .before .before .before .before .before .before .before .pre .1)
+copy-requires c κs = search needs
 
 same-length : tie.Need-same-length
 same-length c = search needs
 
 returns-2 : tie.Need-returns-2
 returns-2 c =
-    let p = c .before .before .before .before .before .before .before .before .before .before .pre in
-    let s = c .before .before .before .before .before .before .results-of .ensures in
+    let p = c .before .before .before .before .before .before .before .before .before .before .before .pre in
+    let s = c .before .before .before .before .before .before .before .results-of .ensures in
     let list = c .before .before .copy .ensures ∙ ap (λ (s : Results). s .amounts) s in
-    let finished = sym (c .before .before .before .before .before .before .before .before .is-finished .ensures) ∙ not-false _ (c .before .before .before .before .before .before .before .if1 .left) in
+    let finished = sym (c .before .before .before .before .before .before .before .before .before .is-finished .ensures) ∙ not-false _ (c .before .before .before .before .before .before .before .before .if1 .left) in
     let all = all-paid _ _ (p .0) (p .1) finished _ list in
     (ap (λ (s : Results). Paid (s .full) (s .paid)) s ∙ all .0, all .1)
 
 pub settle-held-spec : {M : Type 1} → statement M
 settle-held-spec =
     tie.close
-    (tie.spec
-    is-finished-requires
-    returns
-    results-of-requires
-    slice-aggregate-copy
-    copy-requires
-    same-length
-    returns-2)
+    (tie.spec is-finished-requires returns results-of-requires copy-requires same-length returns-2)
