@@ -15,12 +15,20 @@ use Rattle.pays.specs.Amounts.{handedBack}
 unfoldable pub boardPayOf : Round → Pay
 boardPayOf r = boardPay (r .table .board) (nameBoard (community (r .wagers .antes) (r .deck .cards)))
 
+-- its Pocket pay table of the seat's two cards
+unfoldable pub pocketPayOf : Round → ℕ → Pay
+pocketPayOf r k = pocketPay (r .table .pocket) (namePocket (hole (r .wagers .antes) (r .deck .cards) k))
+
+-- its Lo Ball pay table of the seat's five
+unfoldable pub loPayOf : Round → ℕ → Pay
+loPayOf r k = loPay (r .table .lo) (nameLo (five (r .wagers .antes) (r .deck .cards) k))
+
+-- what each side wager of the seat hands back
 unfoldable pub boardAmount : Round → ℕ → ℕ
 boardAmount r k = handedBack (boardPayOf r) (getD (r .wagers .board) k 0)
 
 unfoldable pub pocketAmount : Round → ℕ → ℕ
-pocketAmount r k =
-    handedBack (pocketPay (r .table .pocket) (namePocket (hole (r .wagers .antes) (r .deck .cards) k))) (getD (r .wagers .pocket) k 0)
+pocketAmount r k = handedBack (pocketPayOf r k) (getD (r .wagers .pocket) k 0)
 
 unfoldable pub loAmount : Round → ℕ → ℕ
-loAmount r k = handedBack (loPay (r .table .lo) (nameLo (five (r .wagers .antes) (r .deck .cards) k))) (getD (r .wagers .lo) k 0)
+loAmount r k = handedBack (loPayOf r k) (getD (r .wagers .lo) k 0)

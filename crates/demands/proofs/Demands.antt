@@ -9,7 +9,7 @@ use Prim.Native.Nat.{ℕ, _*_, _-_, _%_}
 use mathlib.Core.Path.{_≡_, refl, sym, ap, subst, _∙_}
 use mathlib.Core.Bool.{true}
 use mathlib.Core.List.{List}
-use lib.ListN.{length, take}
+use lib.ListN.{length, take, drop}
 use Rattle.counting.specs.Count.{total}
 use Rattle.counting.proofs.Once.{one-answer}
 use Rattle.records.specs.Bytes.{areBytes}
@@ -34,9 +34,9 @@ use Rattle.pooling.proofs.Shared.{pool-totals}
 use Rattle.settlement.specs.declared.Settlement.{Settlement}
 use Rattle.settlement.specs.declared.FileSettlement.{FileSettlement}
 use Rattle.settlement.specs.declared.FileSettlement.the-variants.{Paid}
-use Rattle.settlement.specs.Settle.{settleAnswer, settleList, settleNumber, readAnswer, readList, fileAnswer, fileList, prefixAnswer, prefixList, fileNumber}
+use Rattle.settlement.specs.Settle.{settleAnswer, settleList, settleNumber, readAnswer, readList, fileAnswer, fileList, prefixAnswer, prefixList, fileNumber, filePlace}
 use Rattle.demands.specs.Floor.{floorOf, paidOf, Demand3}
-use Rattle.demands.proofs.Settled.{settle-left, read-left, read-done, read-paid}
+use Rattle.demands.proofs.Settled.{settle-left, read-left, read-done, read-paid, refused-place}
 use Rattle.demands.proofs.Taken.{take-left, take-feeds}
 use Rattle.demands.proofs.Third.{demand-3}
 use Rattle.demands.proofs.Whole.{wholeRound, whole-led, whole-finished, whole-pool, floor-reached}
@@ -132,6 +132,12 @@ unfolding readFile
 by-records l lent even =
     let same : readFile l ≡ readBy takes freshRound 0 (fileRecords l) = simp even (sym (read-by-same takes take-feeds (fileRecords l))) in
     (ap (λ w. readAnswer w (length lent)) same, ap (λ w. readList w lent) same)
+
+-- The refused record that is handed back is the one at the place that the refusal carries.
+pub part-at-place : (l lent : List ℕ) → length lent ≡ resultsLong → (fileNumber (fileAnswer l (length lent)) ≡ 0 → ⊥)
+    → refusedPart l ≡ take 16 (drop (16 * filePlace (fileAnswer l (length lent))) l)
+unfolding refusedPart
+part-at-place l lent room n = rw (refused-place (readFile l) lent room n)
 
 -- The first 34 records, and how many bytes come after them, are answered as the whole file is.
 pub prefix-is-file : (l lent : List ℕ) → areBytes l ≡ true

@@ -10,7 +10,7 @@ use lib.Dec.{eqb}
 use lib.ListN.{length}
 use borrow.Author.Tests.{eqb-true, eqb-false, eq-eqb, ne-eqb}
 use Rattle.counting.specs.Choose.{if_then_else_}
-use Rattle.counting.proofs.Tests.{passed}
+use Rattle.counting.proofs.Tests.{clash, passed}
 use Rattle.round.specs.declared.Round.{Round}
 use Rattle.round.specs.Order.{isFinished}
 use Rattle.led.specs.Held.{isHeld}
@@ -22,7 +22,8 @@ use Rattle.settlement.specs.declared.Settlement.{Settlement}
 use Rattle.settlement.specs.declared.Settlement.the-variants.{Paid, Refused}
 use Rattle.settlement.specs.declared.FileSettlement.{FileSettlement}
 use Rattle.settlement.specs.declared.FileSettlement.the-variants.{Paid as PaidFile, Refused as RefusedFile}
-use Rattle.settlement.specs.Settle.{settleRefusal, settleAnswer, settleList, settleNumber, atPlace, readAnswer, readList, fileNumber}
+use Rattle.settlement.proofs.Answers.{all-paid, read-settled}
+use Rattle.settlement.specs.Settle.{settleRefusal, settleAnswer, settleList, settleNumber, atPlace, readAnswer, readList, fileNumber, filePlace}
 
 -- ---- a round
 
@@ -55,16 +56,15 @@ module _ (r : Round) (lent : List ℕ) where
       let done = passed (isFinished r) 15 0 (room .1) in
       record { room = eqb-true (length lent) resultsLong (room .0); finished = done .0; answer = simp none; list = simp none }
 
-  pub finished-paid : Led r → length lent ≡ resultsLong → isFinished r ≡ true
-      → (settleAnswer r (length lent) ≡ Paid (pool r .full) (pool r .paid)) × (settleList r lent ≡ results r)
-  unfolding settleRefusal settleAnswer settleList
-  finished-paid l e f = (simp (led-held r l, e, f), simp (led-held r l, e, f))
-
 -- ---- a reading
 
 at-number : (place : ℕ) (s : Settlement) → fileNumber (atPlace place s) ≡ settleNumber s
 at-number place (Paid full paid) = refl
 at-number place (Refused number) = refl
+
+at-place : (place : ℕ) (s : Settlement) → (fileNumber (atPlace place s) ≡ 0 → ⊥) → filePlace (atPlace place s) ≡ place
+at-place place (Paid full paid) n = absurd (n refl)
+at-place place (Refused number) n = refl
 
 module _ (w : Reading) (lent : List ℕ) where
   abbrev inner : FileSettlement
@@ -102,7 +102,19 @@ module _ (w : Reading) (lent : List ℕ) where
 
   pub read-paid : Led (w .round) → w .number ≡ 0 → length lent ≡ resultsLong → isFinished (w .round) ≡ true
       → (readAnswer w (length lent) ≡ PaidFile (pool (w .round) .full) (pool (w .round) .paid)) × (readList w lent ≡ results (w .round))
-  unfolding readAnswer readList
   read-paid l z e f =
-      let p = finished-paid (w .round) lent l e f in
-      (simp (z, eq-eqb (length lent) resultsLong e, p .0), simp z (p .1))
+      let paid = all-paid (w .round) lent (led-held (w .round) l) e f (results (w .round)) refl in
+      let p = read-settled w lent e z (Paid (pool (w .round) .full) (pool (w .round) .paid)) (results (w .round)) paid in
+      (sym (p .0), sym (p .1))
+
+  -- a refusal that isn't of the list carries the place where reading ended
+  pub refused-place : length lent ≡ resultsLong → (fileNumber (readAnswer w (length lent)) ≡ 0 → ⊥) → filePlace (readAnswer w (length lent)) ≡ w .place
+  unfolding readAnswer
+  refused-place e = go (eqb (length lent) resultsLong) (eq-eqb (length lent) resultsLong e) (eqb (w .number) 0)
+    where
+      go : (room : Bool) → room ≡ true → (none : Bool)
+          → let answer = if not room then RefusedFile 1 0 else if not none then RefusedFile (w .number) (w .place) else inner in
+          (fileNumber answer ≡ 0 → ⊥) → filePlace answer ≡ w .place
+      go false q none n = clash false q refl
+      go true q false n = refl
+      go true q true n = at-place (w .place) (settleAnswer (w .round) (length lent)) n

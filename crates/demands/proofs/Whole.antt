@@ -29,7 +29,7 @@ use Rattle.led.specs.Held.{isHeld}
 use Rattle.led.proofs.Exact.{held-led}
 use Rattle.holding.specs.Deal.{playingBefore, hole, community, five}
 use Rattle.amounts.specs.Base.{baseWager, handOf, basePayOf, pooled, win, kept, wins}
-use Rattle.amounts.specs.Sides.{boardPayOf, boardAmount, pocketAmount, loAmount}
+use Rattle.amounts.specs.Sides.{boardPayOf, pocketPayOf, loPayOf, boardAmount, pocketAmount, loAmount}
 use Rattle.results.specs.Results.{pool, baseAmount, seatAmounts, results}
 use Rattle.demands.specs.Floor.{floorOf, paidOf}
 
@@ -79,7 +79,7 @@ pub whole-results : results wholeRound ≡ 2183300 ∷ 20500 ∷ 10500 ∷ 0
     ∷ 0 ∷ 0 ∷ 0 ∷ 0
     ∷ 0 ∷ 0 ∷ 0 ∷ 0
     ∷ 0 ∷ 0 ∷ 0 ∷ 0 ∷ []
-unfolding wholeRound tally everyBelow someBelow count total gather ofRank ofSuit kinds flush rankOn run straight highest fiveBy nameFive boardBy nameBoard aceFace pocketBy namePocket isLo loBy nameLo baseLines loLines boardLines pocketLines payIn basePay loPay boardPay pocketPay shareOf sharesOf winsFit shareRefusal poolOf everyOf playingBefore hole community five baseWager handOf basePayOf pooled win kept wins boardPayOf boardAmount pocketAmount loAmount pool baseAmount seatAmounts results
+unfolding wholeRound tally everyBelow someBelow count total gather ofRank ofSuit kinds flush rankOn run straight highest fiveBy nameFive boardBy nameBoard aceFace pocketBy namePocket isLo loBy nameLo baseLines loLines boardLines pocketLines payIn basePay loPay boardPay pocketPay shareOf sharesOf winsFit shareRefusal poolOf everyOf playingBefore hole community five baseWager handOf basePayOf pooled win kept wins boardPayOf pocketPayOf loPayOf boardAmount pocketAmount loAmount pool baseAmount seatAmounts results
 whole-results = refl
 
 -- the pool in dollars, full and as paid

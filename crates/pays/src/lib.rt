@@ -18,11 +18,17 @@ pub enum Pay {
     NoTable,
 }
 
+fn times(odds: u16, wager: u32) -> u64
+    ensures { λ r. ⌜ r ≡ odds * wager ⌝ }
+{
+    odds as u64 * wager as u64
+}
+
 // The cents that a win at odds to 1 hands back.
 fn won(odds: u16, wager: u32) -> u64
     ensures { λ r. ⌜ r ≡ 100 * wager + 100 * (odds * wager) ⌝ }
 {
-    100 * (wager as u64) + 100 * (odds as u64 * wager as u64)
+    100 * (wager as u64) + 100 * times(odds, wager)
 }
 
 // What is handed back, in cents, of a wager in dollars.
@@ -36,12 +42,6 @@ pub fn handed_back(pay: Pay, wager: u32) -> u64
         Pay::Loss => 0,
         Pay::NoTable => 0,
     }
-}
-
-fn times(odds: u16, wager: u32) -> u64
-    ensures { λ r. ⌜ r ≡ odds * wager ⌝ }
-{
-    odds as u64 * wager as u64
 }
 
 // The win without the wager, in dollars.

@@ -11,8 +11,7 @@ use lib.ListN.{getD, replicate}
 use borrow.Author.Tests.{leb-true, leb-false, ne-eqb, eqb-true, eqb-false}
 use Rattle.counting.specs.Count.{total}
 use Rattle.counting.proofs.Tallies.{total-at}
-use Rattle.pool.specs.declared.Pool.{Pool}
-use Rattle.pool.specs.Pool.{sharesOf, shareRefusal, poolOf}
+use Rattle.pool.specs.Pool.{sharesOf, shareRefusal, sharedPool, refusedPool, poolOf}
 use Rattle.pool.specs.Shares.{Shares}
 use Rattle.pool.proofs.Shares.{shares-law, kept}
 
@@ -25,17 +24,11 @@ all-within maximum wins shares s = go (leb (total wins) maximum) refl
     go false e = s .within (leb-false (total wins) maximum e)
 
 module _ (wins : List ℕ) (maximum : ℕ) where
-  abbrev pub noneShared : Pool
-  noneShared = record { number = shareRefusal wins maximum 7; full = 0; paid = 0; shares = replicate 7 0 }
-
-  abbrev pub allShared : Pool
-  allShared = record { number = 0; full = total wins; paid = total (sharesOf maximum wins); shares = sharesOf maximum wins }
-
-  pub pool-refused : (shareRefusal wins maximum 7 ≡ 0 → ⊥) → poolOf wins maximum ≡ noneShared
+  pub pool-refused : (shareRefusal wins maximum 7 ≡ 0 → ⊥) → poolOf wins maximum ≡ refusedPool (shareRefusal wins maximum 7)
   unfolding poolOf
   pool-refused n = simp (ne-eqb _ _ n)
 
-  pub pool-shared : shareRefusal wins maximum 7 ≡ 0 → poolOf wins maximum ≡ allShared
+  pub pool-shared : shareRefusal wins maximum 7 ≡ 0 → poolOf wins maximum ≡ sharedPool wins maximum
   unfolding poolOf
   pool-shared e = simp e
 

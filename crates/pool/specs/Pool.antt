@@ -50,8 +50,17 @@ numberOf Full = 0
 numberOf Cut = 0
 numberOf (Refused number) = number
 
--- the pool of seven wins by value: the total in full and as paid, and each share; where the sharing is refused there are none
+-- ---- seven wins by value
+
+-- the total of the wins in full and as paid, and each share
+abbrev pub sharedPool : List ℕ → ℕ → Pool
+sharedPool wins maximum = record { number = 0; full = total wins; paid = total (sharesOf maximum wins); shares = sharesOf maximum wins }
+
+-- where the sharing is refused, nothing is in the pool
+abbrev pub refusedPool : ℕ → Pool
+refusedPool number = record { number = number; full = 0; paid = 0; shares = replicate 7 0 }
+
 unfoldable pub poolOf : List ℕ → ℕ → Pool
 poolOf wins maximum =
-    if not (eqb (shareRefusal wins maximum 7) 0) then record { number = shareRefusal wins maximum 7; full = 0; paid = 0; shares = replicate 7 0 }
-    else record { number = 0; full = total wins; paid = total (sharesOf maximum wins); shares = sharesOf maximum wins }
+    if not (eqb (shareRefusal wins maximum 7) 0) then refusedPool (shareRefusal wins maximum 7)
+    else sharedPool wins maximum

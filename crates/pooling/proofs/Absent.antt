@@ -1,8 +1,10 @@
--- A seat that doesn't play, or has folded, is handed nothing back on its base wager; one that doesn't play nothing at all.
+-- A folded seat is handed nothing back on its base wager, and a seat that doesn't play nothing at all.
 -- Assumes nothing.
 use Prim.Native.Nat.{ℕ, _<_}
-use mathlib.Core.Path.{_≡_}
+use mathlib.Core.Path.{_≡_, sym, _∙_}
 use mathlib.Core.Bool.{false, and-false}
+use mathlib.Core.List.{[], _∷_}
+use native.Mathlib.Omega.{arith}
 use borrow.Author.Tests.{ne-eqb}
 use Rattle.records.specs.Seats.{plays}
 use Rattle.seating.proofs.Seats.{absent-zero}
@@ -13,44 +15,24 @@ use Rattle.led.proofs.Facts.{led-absent}
 use Rattle.pays.proofs.Amounts.{nothing-back}
 use Rattle.amounts.specs.Base.{staysIn, pooled, win, kept}
 use Rattle.amounts.specs.Sides.{boardAmount, pocketAmount, loAmount}
+use Rattle.results.specs.Results.{baseAmount, seatAmounts}
+use Rattle.results.proofs.Places.{base-none}
 
-module _ (r : Round) (k : ℕ) where
-  pub out-kept : staysIn r k ≡ false → kept r k ≡ 0
-  unfolding kept pooled
-  out-kept e = simp e
+module _ (r : Round) (k : ℕ) (h : k < 7) where
+  -- a seat that is no longer in has no win in the pool, and nothing is kept for it
+  out-base : staysIn r k ≡ false → baseAmount r k ≡ 0
+  unfolding win kept pooled
+  out-base e =
+      let none : win r k ≡ 0 = simp e in
+      let nothing : kept r k ≡ 0 = simp e in
+      sym (base-none r k h (omega arith)) ∙ nothing
 
-  pub out-win : staysIn r k ≡ false → win r k ≡ 0
-  unfolding win pooled
-  out-win e = simp e
+  pub folded-base : (foldOf (r .play) k ≡ 0 → ⊥) → baseAmount r k ≡ 0
+  folded-base f = out-base (simp (ne-eqb (foldOf (r .play) k) 0 f, and-false))
 
-  folded-out : (foldOf (r .play) k ≡ 0 → ⊥) → staysIn r k ≡ false
-  folded-out f = simp (ne-eqb (foldOf (r .play) k) 0 f, and-false)
-
-  pub folded-kept : (foldOf (r .play) k ≡ 0 → ⊥) → kept r k ≡ 0
-  folded-kept f = out-kept (folded-out f)
-
-  pub folded-win : (foldOf (r .play) k ≡ 0 → ⊥) → win r k ≡ 0
-  folded-win f = out-win (folded-out f)
-
-  module _ (p : plays (r .wagers .antes) k ≡ false) where
-    absent-out : staysIn r k ≡ false
-    absent-out = simp p
-
-    pub absent-kept : kept r k ≡ 0
-    absent-kept = out-kept absent-out
-
-    pub absent-win : win r k ≡ 0
-    absent-win = out-win absent-out
-
-    module _ (l : Led r) (h : k < 7) where
-      pub absent-board : boardAmount r k ≡ 0
-      unfolding boardAmount
-      absent-board = simp (absent-zero (r .wagers) k (led-absent r l k h p) .1, nothing-back)
-
-      pub absent-pocket : pocketAmount r k ≡ 0
-      unfolding pocketAmount
-      absent-pocket = simp (absent-zero (r .wagers) k (led-absent r l k h p) .2, nothing-back)
-
-      pub absent-lo : loAmount r k ≡ 0
-      unfolding loAmount
-      absent-lo = simp (absent-zero (r .wagers) k (led-absent r l k h p) .3, nothing-back)
+  pub absent-amounts : Led r → plays (r .wagers .antes) k ≡ false → seatAmounts r k ≡ 0 ∷ 0 ∷ 0 ∷ 0 ∷ []
+  unfolding seatAmounts boardAmount pocketAmount loAmount
+  absent-amounts l p =
+      let zero = absent-zero (r .wagers) k (led-absent r l k h p) in
+      let base : baseAmount r k ≡ 0 = out-base (simp p) in
+      simp (base, zero .1, zero .2, zero .3, nothing-back)

@@ -105,8 +105,8 @@ module _ (r : Round) (l : Led r) where
   wins-fit = every-each (λ w. leb w 500000) (win r) 7 (λ k h. le-leb (win r k) 500000 (go k (isRoyal (handOf r k)) (win-most k h)))
     where
       go : (k : ℕ) (royal : Bool) → win r k ≤ (if royal then 5000 * r .table .largest else 1000 * r .table .largest) → win r k ≤ 500000
-      go k true m = omega (arith, table-high (r .table) (led-fits r l .table))
-      go k false m = omega (arith, table-high (r .table) (led-fits r l .table))
+      go k true m = omega (arith, table-high (r .table) (led-fits r l .table) .1)
+      go k false m = omega (arith, table-high (r .table) (led-fits r l .table) .1)
 
 -- ---- the seats together
 

@@ -3,40 +3,31 @@
 -- Assumes nothing.
 use Prim.Native.Nat.{_≤_}
 use mathlib.Core.Path.{_≡_, refl}
-use mathlib.Core.Bool.{Bool, true, false}
 use native.Mathlib.Omega.{arith}
 use lib.ListN.{length}
 use Rattle.counting.specs.Count.{total}
 use Rattle.counting.proofs.Gathers.{each-length}
-use Rattle.seating.specs.declared.Table.{Table}
-use Rattle.seating.specs.Table.{hasTable, tableFits}
-use Rattle.seating.proofs.Tables.{posted, no-table}
+use Rattle.seating.proofs.Tables.{table-high}
 use Rattle.round.specs.declared.Round.{Round}
 use Rattle.led.specs.Led.{Led}
 use Rattle.led.proofs.Kept.{led-fits}
+use Rattle.pool.specs.Pool.{sharedPool}
 use Rattle.pool.specs.Shares.{Shares}
 use Rattle.pool.proofs.Shares.{shares-law, fits}
-use Rattle.pool.proofs.Pools.{all-within, allShared, pool-shared}
+use Rattle.pool.proofs.Pools.{all-within, pool-shared}
 use Rattle.amounts.specs.Base.{win, wins}
 use Rattle.results.specs.Results.{maximum, pool}
 use Rattle.pooling.proofs.Pooled.{wins-fit}
-
-smallest-most : (t : Table) → tableFits t ≡ true → t .smallest ≤ 15
-smallest-most t fits = go (hasTable t) refl
-  where
-    go : (b : Bool) → hasTable t ≡ b → t .smallest ≤ 15
-    go true e = posted t fits e .smallest-high
-    go false e = rw (no-table t fits e) (omega arith)
 
 pub wins-long : (r : Round) → length (wins r) ≡ 7
 unfolding wins
 wins-long r = each-length (win r) 7
 
 module _ (r : Round) (l : Led r) where
-  all-shared : pool r ≡ allShared (wins r) (maximum (r .table))
+  all-shared : pool r ≡ sharedPool (wins r) (maximum (r .table))
   unfolding pool
   all-shared =
-      let most = smallest-most (r .table) (led-fits r l .table) in
+      let high = table-high (r .table) (led-fits r l .table) in
       pool-shared (wins r) (maximum (r .table)) (fits (wins r) (maximum (r .table)) 7 (omega (arith, wins-long r)) (wins-long r) (wins-fit r l) (omega arith))
 
   -- it is not refused, and these are its totals

@@ -14,12 +14,12 @@ use Rattle.counting.specs.Choose.{if_then_else_}
 use Rattle.records.specs.Bytes.{areBytes}
 use Rattle.round.specs.Order.{freshRound}
 use Rattle.led.specs.Held.{isHeld}
-use Rattle.led.proofs.Kept.{Long, Fits, fits-held, fresh-long, fresh-fits}
+use Rattle.led.proofs.Kept.{Fits, fits-held, fresh-fits}
 use Rattle.led.proofs.Counts.{at-most-33}
 use Rattle.reading.specs.declared.Reading.{Reading}
 use Rattle.reading.specs.File.{fileRecords, stop, readRecords, readFile, heldRecords, orTooMany, readPrefix}
 use Rattle.reading.proofs.Records.{records-count, first-bytes, records-bytes, records-split}
-use Rattle.reading.proofs.Readings.{records-kept, records-refused, records-lead}
+use Rattle.reading.proofs.Readings.{records-fit, records-refused, records-lead}
 
 -- ---- one too many
 
@@ -40,24 +40,16 @@ refused-already more w n = simp (ne-eqb (w .number) 0 n)
 
 -- ---- the round that is then held
 
-prefix-kept : (first : List ℕ) (after : ℕ) → Long (readPrefix first after .round) × Fits (readPrefix first after .round)
+pub prefix-held : (first : List ℕ) (after : ℕ) → isHeld (readPrefix first after .round) ≡ true
 unfolding readPrefix
-prefix-kept first after = go (eqb ((length first + after) % 16) 0)
+prefix-held first after = fits-held (readPrefix first after .round) (go (eqb ((length first + after) % 16) 0))
   where
     more : Bool
     more = ltb (length first / 16) ((length first + after) / 16)
 
-    go : (t : Bool)
-        → let w = if not t then stop freshRound 2 ((length first + after) / 16) else orTooMany more (readRecords (fileRecords first)) in
-        Long (w .round) × Fits (w .round)
-    go true = rw (too-many-round more (readRecords (fileRecords first))) (records-kept (fileRecords first))
-    go false = (fresh-long, fresh-fits)
-
-pub prefix-long : (first : List ℕ) (after : ℕ) → Long (readPrefix first after .round)
-prefix-long first after = prefix-kept first after .0
-
-pub prefix-held : (first : List ℕ) (after : ℕ) → isHeld (readPrefix first after .round) ≡ true
-prefix-held first after = fits-held (readPrefix first after .round) (prefix-kept first after .1)
+    go : (t : Bool) → Fits ((if not t then stop freshRound 2 ((length first + after) / 16) else orTooMany more (readRecords (fileRecords first))) .round)
+    go true = rw (too-many-round more (readRecords (fileRecords first))) (records-fit (fileRecords first))
+    go false = fresh-fits
 
 -- ---- the whole file
 

@@ -90,13 +90,13 @@ records-place bs = omega (arith, place-from bs freshRound 0)
 pub records-read : (bs : List (List ℕ)) → readRecords bs .number ≡ 0 → readRecords bs .place ≡ length bs
 records-read bs z = omega (arith, count-from bs freshRound 0 z)
 
--- the round that is then held has the lists of a round and passes the test
-pub records-kept : (bs : List (List ℕ)) → Long (readRecords bs .round) × Fits (readRecords bs .round)
-records-kept bs =
-    along feed (λ r p bs w. Long r → Fits r → Long (w .round) × Fits (w .round))
-    (λ r p l f. (l, f))
+-- the round that is then held passes the test
+pub records-fit : (bs : List (List ℕ)) → Fits (readRecords bs .round)
+records-fit bs =
+    along feed (λ r p bs w. Long r → Fits r → Fits (w .round))
+    (λ r p l f. f)
     (λ r p b bs w a h l f. let k = taken-fits r b l f a in h (k .0) (k .1))
-    (λ r p b bs a l f. (l, f))
+    (λ r p b bs a l f. f)
     bs freshRound 0 fresh-long fresh-fits
 
 -- records that are refused are refused likewise where more come after
@@ -167,14 +167,8 @@ read-count l =
     (λ z. absurd (omega arith))
     (λ z. records-read (fileRecords l) z ∙ records-count l)
 
-read-kept : (l : List ℕ) → Long (readFile l .round) × Fits (readFile l .round)
-read-kept l = file-either (λ w. Long (w .round) × Fits (w .round)) l (fresh-long, fresh-fits) (records-kept (fileRecords l))
-
-pub read-long : (l : List ℕ) → Long (readFile l .round)
-read-long l = read-kept l .0
-
 pub read-held : (l : List ℕ) → isHeld (readFile l .round) ≡ true
-read-held l = fits-held (readFile l .round) (read-kept l .1)
+read-held l = fits-held (readFile l .round) (file-either (λ w. Fits (w .round)) l fresh-fits (records-fit (fileRecords l)))
 
 pub read-leads : (l : List ℕ) → areBytes l ≡ true → readFile l .number ≡ 0 → Leads freshRound (fileRecords l) (readFile l .round)
 read-leads l e =

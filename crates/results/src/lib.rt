@@ -1,7 +1,7 @@
 // The results of a round by value: the pool, full and as paid, and the amounts of the seven seats.
 //
-// Every function here answers for any round. Of a round that no accepted records lead to, wins beyond the pool's limits are shared as the pool
-// shares them: not at all. specs/Results.antt has the pool and the results list.
+// results_of answers for any round. Wins beyond the pool's limits, which no accepted records lead to, are refused by the pool and share
+// nothing. specs/Results.antt has the pool and the results list.
 use amounts::base_wager;
 use amounts::bases_of;
 use amounts::board_pay_of;

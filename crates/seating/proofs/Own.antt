@@ -92,7 +92,7 @@ pub own-seat-bytes : (t : Table) (w : Wagers) (n : ℕ) → n < 7 → tableFits 
 unfolding areBytes seatRecord everyOf
 own-seat-bytes t w n h f e p =
     let g = wagered t w n h e p in
-    let m = table-high t f in
+    let m = table-high t f .1 in
     simp (
       lt-ltb (n + 1) 256 (omega arith),
       lt-ltb (getD (w .antes) n 0) 256 (omega arith),

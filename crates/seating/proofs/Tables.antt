@@ -93,8 +93,11 @@ no-table t e h =
     (λ b i. record { smallest = b .smallest i; largest = b .largest i; base = b .base i; lo = b .lo i; board = b .board i; pocket = b .pocket i })
     (λ l f. absurd (omega (arith, fit-posted t l f, eqb-true (t .smallest) 0 (not-false (eqb (t .smallest) 0) h))))
 
-pub table-high : (t : Table) → tableFits t ≡ true → t .largest ≤ 100
-table-high t e = either (λ (u : Table). u .largest ≤ 100) t e (λ b. omega arith) (λ l f. fit-posted t l f .largest-high)
+pub table-high : (t : Table) → tableFits t ≡ true → (t .smallest ≤ 15) × (t .largest ≤ 100)
+table-high t e =
+    either (λ (u : Table). (u .smallest ≤ 15) × (u .largest ≤ 100)) t e
+    (λ b. (omega arith, omega arith))
+    (λ l f. let p = fit-posted t l f in (p .smallest-high, p .largest-high))
 
 pub table-fresh : tableFits noTable ≡ true
 unfolding tableFits isBlank

@@ -1,6 +1,6 @@
 use mathlib.Core.Path.{sym, _∙_}
 use Rattle.pays.proofs.Amounts.{nothing-back}
-use Rattle.amounts.specs.Sides.{loAmount}
+use Rattle.amounts.specs.Sides.{loPayOf, loAmount}
 use borrow.Author.Needs.{needs}
 use Rattle.amounts.proofs.lo_amount.Statement.{statement}
 use Rattle.amounts.proofs.lo_amount.Tie as tie
@@ -31,7 +31,7 @@ handed-back-requires : tie.Need-handed-back-requires
 handed-back-requires c κs = search needs
 
 returns-2 : tie.Need-returns-2
-unfolding loAmount
+unfolding loPayOf loAmount
 returns-2 c = simp (c .handed-back .ensures, c .before .lo-pay .ensures, c .before .before .lo-of .ensures, c .before .before .before .before .five-of .ensures, c .before .before .before .before .before .before .at7 .ensures)
 
 pub lo-amount-spec : {M : Type 1} → statement M

@@ -1,6 +1,6 @@
 use mathlib.Core.Path.{sym, _∙_}
 use Rattle.pays.proofs.Amounts.{nothing-back}
-use Rattle.amounts.specs.Sides.{pocketAmount}
+use Rattle.amounts.specs.Sides.{pocketPayOf, pocketAmount}
 use borrow.Author.Needs.{needs}
 use Rattle.amounts.proofs.pocket_amount.Statement.{statement}
 use Rattle.amounts.proofs.pocket_amount.Tie as tie
@@ -31,7 +31,7 @@ handed-back-requires : tie.Need-handed-back-requires
 handed-back-requires c κs = search needs
 
 returns-2 : tie.Need-returns-2
-unfolding pocketAmount
+unfolding pocketPayOf pocketAmount
 returns-2 c = simp (c .handed-back .ensures, c .before .pocket-pay .ensures, c .before .before .pocket-of .ensures, c .before .before .before .before .hole-of .ensures, c .before .before .before .before .before .before .at7 .ensures)
 
 pub pocket-amount-spec : {M : Type 1} → statement M

@@ -1,15 +1,11 @@
-use Prim.Native.Nat.{_≤_}
 use native.Mathlib.Omega.{arith}
-use native.Mathlib.Nat.{mul-le-mul}
 use borrow.Author.Needs.{needs}
+use Rattle.pays.proofs.Amounts.{times-most}
 use Rattle.pays.proofs.times.Statement.{statement}
 use Rattle.pays.proofs.times.Tie as tie
 
 mul-result : tie.Need-mul-result
-mul-result c =
-    let a : c .args .odds ≤ 65535 = omega arith in
-    let b : c .args .wager ≤ 4294967295 = omega arith in
-    omega (arith, mul-le-mul a b)
+mul-result c = omega (arith, times-most (c .args .odds) (c .args .wager) (omega arith) (omega arith))
 
 returns : tie.Need-returns
 returns c = search needs

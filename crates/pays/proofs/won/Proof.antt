@@ -1,32 +1,27 @@
-use Prim.Native.Nat.{_*_, _≤_}
 use native.Mathlib.Omega.{arith}
-use native.Mathlib.Nat.{mul-le-mul}
+use Rattle.pays.proofs.Amounts.{times-most}
 use borrow.Author.Needs.{needs}
 use Rattle.pays.proofs.won.Statement.{statement}
 use Rattle.pays.proofs.won.Tie as tie
 
--- odds of a u16 times a wager of a u32
-most : (c : tie.Start) → c .args .odds * c .args .wager ≤ 65535 * 4294967295
-most c =
-    let a : c .args .odds ≤ 65535 = omega arith in
-    let b : c .args .wager ≤ 4294967295 = omega arith in
-    mul-le-mul a b
-
 mul-result : tie.Need-mul-result
 mul-result c = search needs
 
-mul-result-2 : tie.Need-mul-result-2
-mul-result-2 c = omega (arith, most c)
+times-requires : tie.Need-times-requires
+times-requires c κs = search needs
 
-mul-result-3 : tie.Need-mul-result-3
-mul-result-3 c = omega (arith, most c)
+mul-result-2 : tie.Need-mul-result-2
+mul-result-2 c =
+    let a = c .before .args in
+    omega (arith, c .times .ensures, times-most (a .odds) (a .wager) (omega arith) (omega arith))
 
 add-result : tie.Need-add-result
 add-result c =
-    omega (arith, most c)
+    let a = c .before .args in
+    omega (arith, c .times .ensures, times-most (a .odds) (a .wager) (omega arith) (omega arith))
 
 returns : tie.Need-returns
 returns c = search needs
 
 pub won-spec : {M : Type 1} → statement M
-won-spec = tie.close (tie.spec mul-result mul-result-2 mul-result-3 add-result returns)
+won-spec = tie.close (tie.spec mul-result times-requires mul-result-2 add-result returns)
