@@ -1,20 +1,20 @@
 -- What follows where cards have no fault, and that a whole deck holds each of the 52 cards exactly once.
 -- Assumes nothing.
 use Prim.Native.Nat.{ℕ, zero, suc, _≤_, _<_}
-use mathlib.Core.Path.{_≡_, refl, sym, _∙_}
-use mathlib.Core.Bool.{true, false, not}
-use mathlib.Core.List.{List, _++_}
+use mathlib.Core.Path.{_≡_, refl, sym, ap, _∙_}
+use mathlib.Core.Bool.{Bool, true, false, not, _&&_, _||_, or-true, and-assoc}
+use mathlib.Core.List.{List, [], _∷_}
 use native.Mathlib.Omega.{arith}
 use lib.Dec.{eqb}
-use lib.ListN.{length, getD, length-append, List·getD-append}
+use lib.ListN.{length, getD, take, drop}
 use borrow.Author.Tests.{leb-true, eqb-true, not-true, not-false}
-use Rattle.counting.specs.Count.{everyOf, sumBelow}
+use Rattle.counting.specs.Count.{everyOf, someBelow, sumBelow}
 use Rattle.counting.proofs.Tests.{and-true, or-false}
-use Rattle.counting.proofs.Lists.{everyOf-at, everyOf-left}
+use Rattle.counting.proofs.Lists.{everyOf-at}
 use Rattle.counting.proofs.Sums.{heaps-whole, squeezed}
 use Rattle.cards.specs.Card.{isCard}
-use Rattle.cards.specs.Deck.{repeats, faulty, wholeDeck}
-use Rattle.cards.proofs.Repeats.{places-differ, differ-places, copies, once-each}
+use Rattle.cards.specs.Deck.{repeats, repeatsFrom, faulty, faultyFrom, wholeDeck}
+use Rattle.cards.proofs.Repeats.{repeats-split, copies, once-each}
 
 module _ (cs : List ℕ) (sound : faulty cs ≡ false) where
   parts : (not (everyOf isCard cs) ≡ false) × (repeats cs ≡ false)
@@ -49,17 +49,30 @@ whole-deck cs w =
     squeezed 52 (λ c. copies c cs) (λ c. 1) (λ c h. once-each cs (no-repeat cs (whole-sound cs w)) c)
     (omega (arith, ones 52, heaps-whole (λ c. c) 52 cs (below-52 cs (whole-sound cs w)), whole-length cs w))
 
--- ---- no fault: what comes first of cards without fault has none
+-- ---- the faults of a list are those of its first n cards, and those from there on
 
-sound : (cs : List ℕ) → everyOf isCard cs ≡ true → repeats cs ≡ false → faulty cs ≡ false
-unfolding faulty
-sound cs p q = simp (p, q)
+regrouped : (a b c d : Bool) → (not (a && b) || (c || d)) ≡ ((not a || c) || (not b || d))
+regrouped true true c d = refl
+regrouped true false c d = sym (or-true c)
+regrouped false b c d = refl
 
-module _ (a b : List ℕ) where
-  left-differ : repeats (a ++ b) ≡ false → repeats a ≡ false
-  left-differ e = differ-places a λ i h j l same.
-      places-differ (a ++ b) e i (omega (arith, length-append a b)) j l
-      (List·getD-append a b 0 i h ∙ same ∙ sym (List·getD-append a b 0 j (omega arith)))
+cards-split : (n : ℕ) (cs : List ℕ) → everyOf isCard cs ≡ (everyOf isCard (take n cs) && everyOf isCard (drop n cs))
+unfolding everyOf
+cards-split zero cs = refl
+cards-split (suc n) [] = refl
+cards-split (suc n) (x ∷ xs) =
+    ap (λ t. isCard x && t) (cards-split n xs) ∙ sym (and-assoc (isCard x) (everyOf isCard (take n xs)) (everyOf isCard (drop n xs)))
 
-  pub faulty-left : faulty (a ++ b) ≡ false → faulty a ≡ false
-  faulty-left e = sound a (everyOf-left isCard a b (are-cards (a ++ b) e)) (left-differ (no-repeat (a ++ b) e))
+pub faulty-split : (n : ℕ) (cs : List ℕ) → faulty cs ≡ (faulty (take n cs) || faultyFrom n cs)
+unfolding faulty faultyFrom
+faulty-split n cs =
+    rw (cards-split n cs, repeats-split n cs)
+    (regrouped (everyOf isCard (take n cs)) (everyOf isCard (drop n cs)) (repeats (take n cs)) (repeatsFrom n cs))
+
+pub faulty-whole : (cs : List ℕ) → faulty cs ≡ faultyFrom 0 cs
+unfolding faulty repeats someBelow everyOf
+faulty-whole cs = faulty-split 0 cs
+
+-- so cards without fault have none among the first n, and none from there on
+pub sound-split : (n : ℕ) (cs : List ℕ) → faulty cs ≡ false → (faulty (take n cs) ≡ false) × (faultyFrom n cs ≡ false)
+sound-split n cs e = or-false (faulty (take n cs)) (faultyFrom n cs) (sym (faulty-split n cs) ∙ e)

@@ -1,12 +1,14 @@
 // Cards: rank and suit, a repeat, the fault that refusal 11 names, and a whole deck.
 //
 // A card exists once it has a place in a whole deck, so nothing here trusts a card: each function answers for any
-// bytes. proofs/ has the laws: a deck with no repeat by places is one with no repeat by counts, a whole deck holds each of
-// the 52 cards exactly once, and the order of cards plays no part in their faults.
+// bytes. proofs/ has the laws: a deck with no repeat by places is one with no repeat by counts, the faults of a list are those of
+// its first n cards and those from there on, a whole deck holds each of the 52 cards exactly once, and the order of cards plays no
+// part in their faults.
 ghost use mathlib.Core.Path.{_≡_};
+ghost use lib.ListN.{drop};
 ghost use Rattle.counting.specs.Count.{everyOf};
 ghost use Rattle.cards.specs.Card.{isCard, rank, suit};
-ghost use Rattle.cards.specs.Deck.{repeats, faulty, wholeDeck};
+ghost use Rattle.cards.specs.Deck.{repeatsFrom, faulty, faultyFrom, wholeDeck};
 
 pub fn rank_of(card: u8) -> u8
     ensures { λ r. ⌜ r ≡ rank card ⌝ }
@@ -20,11 +22,11 @@ pub fn suit_of(card: u8) -> u8
     card % 4
 }
 
-// No card is above 51.
-pub fn are_cards(cards: &[u8]) -> bool
-    ensures { λ r. ⌜ r ≡ everyOf isCard (now (cards .entry)) ⌝ }
+// No card from place `from` on is above 51.
+pub fn are_cards_from(cards: &[u8], from: usize) -> bool
+    ensures { λ r. ⌜ r ≡ everyOf isCard (drop from (now (cards .entry))) ⌝ }
 {
-    let mut i = 0;
+    let mut i = from;
     while i < cards.len() {
         if 51 < cards[i] {
             return false;
@@ -34,12 +36,12 @@ pub fn are_cards(cards: &[u8]) -> bool
     true
 }
 
-// A card stands at two places. The search stops at once, from inside, at the first one found.
-pub fn has_repeat(cards: &[u8]) -> bool
-    ensures { λ r. ⌜ r ≡ repeats (now (cards .entry)) ⌝ }
+// A card from place `from` on stands at an earlier place too. The search stops at once, from inside, at the first one found.
+pub fn has_repeat_from(cards: &[u8], from: usize) -> bool
+    ensures { λ r. ⌜ r ≡ repeatsFrom from (now (cards .entry)) ⌝ }
 {
     let mut found = false;
-    let mut i = 0;
+    let mut i = from;
     'places: while i < cards.len() {
         let mut j = 0;
         while j < i {
@@ -54,11 +56,18 @@ pub fn has_repeat(cards: &[u8]) -> bool
     found
 }
 
+// A card from place `from` on is above 51, or stands at an earlier place too.
+pub fn is_faulty_from(cards: &[u8], from: usize) -> bool
+    ensures { λ r. ⌜ r ≡ faultyFrom from (now (cards .entry)) ⌝ }
+{
+    !are_cards_from(cards, from) | has_repeat_from(cards, from)
+}
+
 // A card above 51, or a repeat.
 pub fn is_faulty(cards: &[u8]) -> bool
     ensures { λ r. ⌜ r ≡ faulty (now (cards .entry)) ⌝ }
 {
-    !are_cards(cards) | has_repeat(cards)
+    is_faulty_from(cards, 0)
 }
 
 pub fn is_whole_deck(cards: &[u8]) -> bool

@@ -5,16 +5,11 @@ use mathlib.Core.Path.{_≡_}
 use mathlib.Core.Bool.{true}
 use mathlib.Core.List.{List}
 use native.Mathlib.Omega.{arith}
-use lib.Dec.{eqb}
 use lib.ListN.{getD}
-use borrow.Author.Tests.{eqb-true}
-use Rattle.counting.proofs.Tests.{and-true, positive}
-use Rattle.records.specs.Seats.{plays}
 use Rattle.choosing.specs.declared.Play.{Play}
-use Rattle.choosing.specs.Streets.{raiseOn, foldOf, stillIn, streetsOver}
+use Rattle.choosing.specs.Streets.{raiseOn, foldOf}
 use Rattle.choosing.specs.Slots.{playFits}
 use Rattle.choosing.proofs.Slot.{slots-out}
-use Rattle.choosing.proofs.Street.{street-over, closed-raised}
 
 pub raise-most : (antes : List ℕ) (p : Play) (o s k : ℕ) → s < 3 → k < 7 → playFits antes p o ≡ true → raiseOn p s k ≤ 3
 raise-most antes p o s k l h fits = slots-out antes p o fits s k l h .top
@@ -32,11 +27,6 @@ raised-before-fold antes p o s k l h fits f = omega (arith, slots-out antes p o 
 pub none-from-fold : (antes : List ℕ) (p : Play) (o s k : ℕ) → s < 3 → k < 7 → playFits antes p o ≡ true → 0 < foldOf p k → foldOf p k ≤ s + 1
     → raiseOn p s k ≡ 0
 none-from-fold antes p o s k l h fits f g = omega (arith, slots-out antes p o fits s k l h .early)
-
-pub raised-to-the-end : (antes : List ℕ) (p : Play) (s k : ℕ) → s < 3 → k < 7 → streetsOver antes p ≡ 3 → stillIn antes p k ≡ true → 1 ≤ raiseOn p s k
-raised-to-the-end antes p s k l h over e =
-    let i = and-true (plays antes k) (eqb (foldOf p k) 0) e in
-    closed-raised antes p s k (street-over antes p s l (omega arith)) h (positive (getD antes k 0) (i .0)) (eqb-true (foldOf p k) 0 (i .1))
 
 pub absent-none : (antes : List ℕ) (p : Play) (o s k : ℕ) → s < 3 → k < 7 → playFits antes p o ≡ true → getD antes k 0 ≡ 0
     → (foldOf p k ≡ 0) × (raiseOn p s k ≡ 0)

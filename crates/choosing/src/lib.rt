@@ -7,8 +7,6 @@
 use counting::at7;
 use counting::at21;
 use counting::byte_at7;
-use counting::put_byte7;
-use counting::put21;
 use records::byte_at;
 use records::is_between;
 use records::is_zero_from;
@@ -135,23 +133,25 @@ impl Play {
         self.standing_refusal(antes, place_of(seat))
     }
 
-    // The seat at place `k` chooses on street `s`.
-    fn chosen_on(self, s: u8, k: u8, choice: u8) -> Play
+    // The seat at place `k` chooses on street `s`. A place past the end of its array changes nothing.
+    fn chosen_on(mut self, s: u8, k: u8, choice: u8) -> Play
         requires { ⌜ s < 4 ⌝ }
         ensures { λ r. ⌜ r ≡ chosen self s k choice ⌝ }
     {
-        let raises = self.raises;
-        let folds = self.folds;
+        let at = k as usize;
         if choice == 0 {
-            return Play {
-                raises: raises,
-                folds: put_byte7(folds, k as usize, s + 1),
-            };
+            if 7 <= at {
+                return self;
+            }
+            self.folds[at] = s + 1;
+            return self;
         }
-        Play {
-            raises: put21(raises, s as usize * 7 + k as usize, choice),
-            folds: folds,
+        let slot = s as usize * 7 + at;
+        if 21 <= slot {
+            return self;
         }
+        self.raises[slot] = choice;
+        self
     }
 
     // The play with the choice of a record, made on the street that is open.

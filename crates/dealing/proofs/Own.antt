@@ -1,24 +1,24 @@
 -- The parts of a deck, written again one by one, lead to it.
 -- Assumes nothing.
-use Prim.Native.Nat.{ℕ, _+_, _-_, _*_, _≤_, _<_}
+use Prim.Native.Nat.{ℕ, _+_, _*_, _≤_, _<_}
 use mathlib.Core.Path.{_≡_, refl, sym, ap, _∙_}
 use mathlib.Core.Bool.{true, false}
-use mathlib.Core.List.{List, [], _∷_, _++_}
+use mathlib.Core.List.{List, [], _∷_}
 use native.Mathlib.Omega.{arith}
 use lib.Dec.{eqb, ltb}
 use lib.ListN.{length, take, drop, length-append, length-drop}
-use lib.Seq.{sets, length-take-le, take-add, take-at, drop-at}
+use lib.Seq.{sets, length-take-le, take-take, take-add, take-at, drop-at}
 use borrow.Author.Tests.{eq-eqb, lt-ltb, leb-true}
 use Rattle.counting.specs.Count.{everyOf}
 use Rattle.counting.proofs.Tests.{both, pass}
 use Rattle.counting.proofs.Lists.{everyOf-both, everyOf-right, everyOf-weaker}
 use Rattle.counting.proofs.Firsts.{firsts, firsts-none, firsts-take, firsts-on, firsts-rest}
 use Rattle.cards.specs.Card.{isCard}
-use Rattle.cards.specs.Deck.{faulty}
-use Rattle.cards.proofs.Decks.{are-cards, faulty-left}
+use Rattle.cards.specs.Deck.{faulty, faultyFrom}
+use Rattle.cards.proofs.Decks.{are-cards, sound-split}
 use Rattle.records.specs.Bytes.{byte, zeroFrom, areBytes}
 use Rattle.dealing.specs.declared.Deck.{Deck}
-use Rattle.dealing.specs.Part.{thirteenOf, dealt, withPart, partRefusal, noDeck, deckFits, partRecord}
+use Rattle.dealing.specs.Part.{thirteenOf, dealt, withPart, partFaulty, partRefusal, noDeck, deckFits, partRecord}
 use Rattle.dealing.proofs.Parts.{part-more, parts-le, deck-sound, deck-zeros}
 
 -- ---- the deck of the first n parts
@@ -77,18 +77,18 @@ module _ (d : Deck) (n : ℕ) (long : length (d .cards) ≡ 52) (fits : deckFits
       ∙ firsts-on (d .cards) 13 (13 * n) (omega (arith, room))
       ∙ ap (λ (k : ℕ). firsts k (d .cards)) step)
 
-  -- the cards up to the end of this part, and those of the parts after it
-  longer : dealt d ≡ take (13 * (n + 1)) (d .cards) ++ take (13 * d .parts - 13 * (n + 1)) (drop (13 * (n + 1)) (d .cards))
-  longer =
-      let e : 13 * d .parts ≡ 13 * (n + 1) + (13 * d .parts - 13 * (n + 1)) = omega arith in
-      ap (λ (k : ℕ). take k (d .cards)) e ∙ take-add (13 * (n + 1)) (13 * d .parts - 13 * (n + 1)) (d .cards)
-
+  -- the cards up to the end of this part have no fault
   sound : faulty (take (13 * (n + 1)) (d .cards)) ≡ false
-  sound = faulty-left (take (13 * (n + 1)) (d .cards)) _ (sym (ap faulty longer) ∙ deck-sound d fits)
+  sound =
+      ap faulty (sym (take-take (13 * (n + 1)) (13 * d .parts) (d .cards) (omega arith)))
+      ∙ sound-split (13 * (n + 1)) (dealt d) (deck-sound d fits) .0
 
-  own-sound : faulty (dealt (withPart (firstParts n d) (partRecord d n))) ≡ false
-  unfolding firstParts
-  own-sound = ap (λ (x : Deck). faulty (dealt x)) own-next ∙ ap faulty (firsts-take (13 * (n + 1)) (d .cards)) ∙ sound
+  own-sound : partFaulty (firstParts n d) (partRecord d n) ≡ false
+  unfolding partFaulty firstParts
+  own-sound =
+      ap (λ (x : Deck). faultyFrom (13 * n) (dealt x)) own-next
+      ∙ ap (faultyFrom (13 * n)) (firsts-take (13 * (n + 1)) (d .cards))
+      ∙ sound-split (13 * n) (take (13 * (n + 1)) (d .cards)) sound .1
 
   pub own-part : partRefusal (firstParts n d) (partRecord d n) ≡ 0
   unfolding partRefusal firstParts partRecord

@@ -6,31 +6,32 @@ use mathlib.Core.Bool.{Bool, true, false, not, _&&_}
 use mathlib.Core.List.{List, _++_}
 use native.Mathlib.Omega.{arith}
 use lib.Dec.{eqb, leb, ltb}
-use lib.ListN.{length, drop, length-append}
-use lib.Seq.{sets, sets-eq, length-slice, length-sets, length-take-le, drop-at, take-all, drop-drop}
+use lib.ListN.{length, take, drop, length-append}
+use lib.Seq.{sets, sets-eq, length-slice, length-sets, length-take-le, take-at, drop-at, take-all, drop-drop}
 use borrow.Author.Tests.{eqb-true, eq-eqb, leb-true, le-leb, lt-ltb, not-true}
 use Rattle.counting.specs.Choose.{if_then_else_}
 use Rattle.counting.specs.Count.{everyOf, someBelow}
 use Rattle.counting.proofs.Tests.{and-true, unchosen, passed}
 use Rattle.counting.proofs.Lists.{everyOf-drop}
-use Rattle.cards.specs.Deck.{repeats, faulty, wholeDeck}
+use Rattle.cards.specs.Deck.{repeats, faulty, faultyFrom, wholeDeck}
+use Rattle.cards.proofs.Decks.{faulty-split}
 use Rattle.records.specs.Bytes.{byte, zeroFrom}
 use Rattle.dealing.specs.declared.Deck.{Deck}
-use Rattle.dealing.specs.Part.{thirteenOf, dealt, withPart, partRefusal, noDeck, deckFits}
+use Rattle.dealing.specs.Part.{thirteenOf, dealt, withPart, partFaulty, partRefusal, noDeck, deckFits}
 
 -- ---- an accepted part
 
 pub record AllowedPart (d : Deck) (b : List ℕ) : Type 0 where
   pub zeros : zeroFrom 15 b ≡ true
   pub part : byte b 1 ≡ d .parts
-  pub cards : faulty (dealt (withPart d b)) ≡ false
+  pub cards : partFaulty d b ≡ false
 
 pub part-accepted : (d : Deck) (b : List ℕ) → partRefusal d b ≡ 0 → AllowedPart d b
 unfolding partRefusal
 part-accepted d b e =
     let p = passed _ 3 _ e in
     let q = passed _ 9 _ (p .1) in
-    record { zeros = p .0; part = eqb-true _ _ (q .0); cards = unchosen (faulty (dealt (withPart d b))) 10 0 (q .1) .0 }
+    record { zeros = p .0; part = eqb-true _ _ (q .0); cards = unchosen (partFaulty d b) 10 0 (q .1) .0 }
 
 -- ---- the deck with one more part
 
@@ -105,6 +106,11 @@ module _ (d : Deck) (b : List ℕ) (long : length (d .cards) ≡ 52) (sixteen : 
   so-far : length (dealt d ++ thirteenOf b) ≡ 13 * (d .parts + 1)
   so-far = omega (arith, length-append (dealt d) (thirteenOf b), length-take-le (13 * d .parts) (d .cards) (omega arith), thirteen)
 
+  cards-next : dealt (nextDeck d b) ≡ dealt d ++ thirteenOf b
+  cards-next =
+      ap (take (13 * (d .parts + 1))) put-in
+      ∙ take-at (dealt d ++ thirteenOf b) (drop (13 * d .parts + length (thirteenOf b)) (d .cards)) (13 * (d .parts + 1)) so-far
+
   still : drop (13 * (d .parts + 1)) (filled d b) ≡ drop 13 (drop (13 * d .parts) (d .cards))
   still =
       ap (drop (13 * (d .parts + 1))) put-in
@@ -116,9 +122,21 @@ module _ (d : Deck) (b : List ℕ) (long : length (d .cards) ≡ 52) (sixteen : 
   unfolding zeroFrom
   zeros-still fits = ap (everyOf (λ x. eqb x 0)) still ∙ everyOf-drop (λ x. eqb x 0) 13 (drop (13 * d .parts) (d .cards)) (deck-zeros d fits)
 
+  before : take (13 * d .parts) (dealt (nextDeck d b)) ≡ dealt d
+  before =
+      ap (take (13 * d .parts)) cards-next
+      ∙ take-at (dealt d) (thirteenOf b) (13 * d .parts) (length-take-le (13 * d .parts) (d .cards) (omega arith))
+
+  new-sound : partRefusal d b ≡ 0 → faultyFrom (13 * d .parts) (dealt (nextDeck d b)) ≡ false
+  unfolding partFaulty
+  new-sound accepted = sym (ap (λ (x : Deck). faultyFrom (13 * d .parts) (dealt x)) (part-more d b room)) ∙ part-accepted d b accepted .cards
+
+  -- no fault in the parts before, and none in the new one
+  next-sound : deckFits d ≡ true → partRefusal d b ≡ 0 → faulty (dealt (nextDeck d b)) ≡ false
+  next-sound fits accepted =
+      faulty-split (13 * d .parts) (dealt (nextDeck d b)) ∙ simp (ap faulty before ∙ deck-sound d fits, new-sound accepted)
+
   pub part-kept : deckFits d ≡ true → partRefusal d b ≡ 0 → deckFits (withPart d b) ≡ true
   part-kept fits accepted =
-      let m = part-more d b room in
-      ap deckFits m
-      ∙ deck-of (nextDeck d b) (omega arith)
-      (sym (ap (λ (x : Deck). faulty (dealt x)) m) ∙ part-accepted d b accepted .cards) (zeros-still fits)
+      ap deckFits (part-more d b room)
+      ∙ deck-of (nextDeck d b) (omega arith) (next-sound fits accepted) (zeros-still fits)

@@ -7,7 +7,7 @@ use lib.Dec.{eqb, leb, ltb}
 use lib.ListN.{take, drop, replicate}
 use lib.Seq.{sets, slice}
 use Rattle.counting.specs.Choose.{if_then_else_}
-use Rattle.cards.specs.Deck.{faulty}
+use Rattle.cards.specs.Deck.{faulty, faultyFrom}
 use Rattle.records.specs.Bytes.{byte, zeroFrom}
 use Rattle.dealing.specs.declared.Deck.{Deck}
 
@@ -25,13 +25,17 @@ withPart d b =
     if ltb (d .parts) 4 then record { cards = sets (d .cards) (13 * d .parts) (thirteenOf b); parts = d .parts + 1 }
     else d
 
+-- card above 51, or a repeat, within the part or of a part before
+unfoldable pub partFaulty : Deck → List ℕ → Bool
+partFaulty d b = faultyFrom (13 * d .parts) (dealt (withPart d b))
+
 -- The number of the refusal of what a deck record says, 0 where there is none. 4: a byte that must be zero isn't. 10: deck part not
--- the next one. 11: a card above 51, or a repeat, within the part or of a part before.
+-- the next one. 11: card above 51, or a repeat.
 unfoldable pub partRefusal : Deck → List ℕ → ℕ
 partRefusal d b =
     if not (zeroFrom 15 b) then 4
     else if not (eqb (byte b 1) (d .parts)) then 10
-    else if faulty (dealt (withPart d b)) then 11
+    else if partFaulty d b then 11
     else 0
 
 -- before the first part

@@ -2,16 +2,16 @@
 //
 // A deck record is answered here by the number of its refusal and by the deck with its cards; whether such a record may come is
 // the round's to say. Each function answers for any deck and any bytes. `fits` is true of the decks that accepted records
-// leave, and proofs/ shows it from both sides. The search for a repeat is the labelled one of `cards`: at most 52 × 51 ÷ 2 comparisons.
-use cards::is_faulty;
-use counting::put52;
+// leave, and proofs/ shows it from both sides. The search for a repeat is the labelled one of `cards`. A record has its thirteen
+// cards looked at, each against every place before it: over four parts at most 52 × 51 ÷ 2 comparisons, as many as `fits` makes.
+use cards::is_faulty_from;
 use records::byte_at;
 use records::is_zero_from;
 ghost use mathlib.Core.Path.{_≡_};
-ghost use Prim.Native.Nat.{_*_, _<_};
+ghost use Prim.Native.Nat.{_*_, _≤_};
 ghost use lib.ListN.{take};
 ghost use lib.Seq.{sets};
-ghost use Rattle.cards.specs.Deck.{faulty};
+ghost use Rattle.cards.specs.Deck.{faultyFrom};
 ghost use Rattle.records.specs.Bytes.{zeroFrom};
 ghost use Rattle.dealing.specs.Part.{thirteenOf, dealt, withPart, partRefusal, deckFits};
 
@@ -22,7 +22,7 @@ pub struct Deck {
 
 // The cards with the record's thirteen from place `from` on.
 fn put_cards(cards: [u8; 52], from: usize, bytes: &[u8]) -> [u8; 52]
-    requires { ⌜ from < 52 ⌝ }
+    requires { ⌜ from ≤ 39 ⌝ }
     ensures { λ r. ⌜ r ≡ sets cards from (thirteenOf (now (bytes .entry))) ⌝ }
 {
     let mut deck = cards;
@@ -32,22 +32,21 @@ fn put_cards(cards: [u8; 52], from: usize, bytes: &[u8]) -> [u8; 52]
         if bytes.len() <= k {
             return deck;
         }
-        let next = put52(deck, at, bytes[k]);
-        deck = next;
+        deck[at] = bytes[k];
         at += 1;
         k += 1;
     }
     deck
 }
 
-// A card above 51, or a repeat, among the first `n`.
-fn has_fault_before(cards: [u8; 52], n: usize) -> bool
-    ensures { λ r. ⌜ r ≡ faulty (take n cards) ⌝ }
+// A card at a place from `from` to below `n` is above 51, or stands at an earlier place too.
+fn has_fault_between(cards: [u8; 52], from: usize, n: usize) -> bool
+    ensures { λ r. ⌜ r ≡ faultyFrom from (take n cards) ⌝ }
 {
     if n < 52 {
-        return is_faulty(&cards[0..n]);
+        return is_faulty_from(&cards[0..n], from);
     }
-    is_faulty(&cards[0..52])
+    is_faulty_from(&cards[0..52], from)
 }
 
 fn is_blank_from(cards: [u8; 52], n: usize) -> bool
@@ -57,12 +56,12 @@ fn is_blank_from(cards: [u8; 52], n: usize) -> bool
 }
 
 impl Deck {
-    // A card above 51, or a repeat, in the parts read so far.
-    fn has_fault(self) -> bool
-        ensures { λ r. ⌜ r ≡ faulty (dealt self) ⌝ }
+    // A card of the parts read so far, from place `from` on, is above 51, or stands at an earlier place too.
+    fn has_fault_from(self, from: usize) -> bool
+        ensures { λ r. ⌜ r ≡ faultyFrom from (dealt self) ⌝ }
     {
         let cards = self.cards;
-        has_fault_before(cards, 13 * (self.parts as usize))
+        has_fault_between(cards, from, 13 * (self.parts as usize))
     }
 
     // The deck with one more part, while there is room.
@@ -90,7 +89,7 @@ impl Deck {
             return 10;
         }
         let next = self.with_part(bytes);
-        if next.has_fault() {
+        if next.has_fault_from(13 * (self.parts as usize)) {
             return 11;
         }
         0
@@ -102,6 +101,6 @@ impl Deck {
     {
         let cards = self.cards;
         let rest = is_blank_from(cards, 13 * (self.parts as usize));
-        (self.parts <= 4) & (!self.has_fault() & rest)
+        (self.parts <= 4) & (!self.has_fault_from(0) & rest)
     }
 }

@@ -1,7 +1,7 @@
 -- An accepted record is one of four kinds, with its conditions; and a record with the conditions of its kind is accepted.
 -- Assumes nothing.
 use Prim.Native.Nat.{ℕ, _<_}
-use mathlib.Core.Path.{_≡_, refl, ap, sym, subst, _∙_}
+use mathlib.Core.Path.{_≡_, refl, sym, subst, _∙_}
 use mathlib.Core.Bool.{Bool, true, false, not, _&&_}
 use mathlib.Core.List.{List}
 use lib.Dec.{eqb, ltb}
@@ -17,10 +17,9 @@ use Rattle.dealing.specs.Part.{partRefusal, withPart}
 use Rattle.choosing.specs.Streets.{streetsOver}
 use Rattle.choosing.specs.Choice.{choiceRefusal, withChoice}
 use Rattle.round.specs.declared.Round.{Round}
-use Rattle.round.specs.declared.Step.{Step}
 use Rattle.round.specs.Order.{isDealt, isPlaying, mayCome}
-use Rattle.round.specs.Feed.{kindRefusal, refusal, withTable, withWagers, withDeck, withPlay, next, accepted, feed, numberOf}
-use Rattle.round.proofs.Numbers.{feed-number}
+use Rattle.round.specs.Feed.{kindRefusal, refusal, withTable, withWagers, withDeck, withPlay, next, feed, numberOf}
+use Rattle.round.proofs.Numbers.{feed-number, feed-next}
 use Rattle.led.specs.Led.{isTaken}
 
 -- what an accepted record b makes of the round r
@@ -33,22 +32,15 @@ pub data Took (r : Round) (b : List ℕ) : Round → Type 0 where
   choice : byte b 0 ≡ 4 → r .deck .parts ≡ 4 → streetsOver (r .wagers .antes) (r .play) < 3
       → choiceRefusal (r .wagers .antes) (r .play) b ≡ 0 → Took r b (withPlay r (withChoice (r .wagers .antes) (r .play) b))
 
--- ---- accepted: no refusal, and the next round
+-- ---- accepted: no refusal
 
 -- a record is taken exactly where it has no refusal
 module _ (r : Round) (b : List ℕ) where
-  fed : refusal r b ≡ 0 → feed r b ≡ accepted (next r b)
-  unfolding feed
-  fed e = simp (eq-eqb (refusal r b) 0 e)
-
   taken-none : isTaken (feed r b .answer) ≡ true → refusal r b ≡ 0
   taken-none a = sym (feed-number r b) ∙ eqb-true (numberOf (feed r b .answer)) 0 a
 
   pub none-taken : refusal r b ≡ 0 → isTaken (feed r b .answer) ≡ true
   none-taken e = eq-eqb (numberOf (feed r b .answer)) 0 (feed-number r b ∙ e)
-
-  pub none-next : refusal r b ≡ 0 → feed r b .round ≡ next r b
-  none-next e = ap (λ (s : Step). s .round) (fed e)
 
   -- no refusal, test by test
   passes : refusal r b ≡ 0 → (length b ≡ 16) × (mayCome r (byte b 0) ≡ true) × (kindRefusal r b ≡ 0)
@@ -101,7 +93,7 @@ module _ (r : Round) (b : List ℕ) where
   took a =
       let none = taken-none a in
       let p = passes none in
-      (p .0, subst (Took r b) (sym (none-next none)) (by-kind (p .1) (p .2)))
+      (p .0, subst (Took r b) (sym (feed-next r b none)) (by-kind (p .1) (p .2)))
 
 -- ---- the other way round: each kind, where its conditions hold
 

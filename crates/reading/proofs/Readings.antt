@@ -1,24 +1,25 @@
 -- Reading records one at a time, and a file of them: its place, the round that is then held, and that accepted records lead to it.
 -- Assumes nothing.
 use Prim.Native.Nat.{ℕ, _+_, _*_, _/_, _%_, _≤_, _<_}
-use mathlib.Core.Path.{_≡_, refl, ap, _∙_}
+use mathlib.Core.Path.{_≡_, refl, ap, sym, _∙_}
 use mathlib.Core.Bool.{Bool, true, false, not}
 use mathlib.Core.List.{List, [], _∷_, _++_}
 use native.Mathlib.Omega.{arith}
 use lib.Dec.{eqb, ltb}
 use lib.ListN.{length, take, drop}
-use borrow.Author.Tests.{eq-eqb, ne-eqb, eqb-false}
+use borrow.Author.Tests.{ne-eqb, eqb-false}
 use Rattle.counting.specs.Choose.{if_then_else_}
 use Rattle.counting.proofs.Lists.{everyOf-left, everyOf-right}
 use Rattle.records.specs.Bytes.{areBytes}
 use Rattle.round.specs.declared.Round.{Round}
 use Rattle.round.specs.declared.Step.{Step}
 use Rattle.round.specs.Order.{freshRound}
-use Rattle.round.specs.Feed.{feed, numberOf}
+use Rattle.round.specs.Feed.{refusal, next, feed, numberOf}
+use Rattle.round.proofs.Numbers.{feed-number, feed-next}
 use Rattle.led.specs.Led.{isTaken, Leads}
 use Rattle.led.specs.Led.Leads.{done, then as accepts}
 use Rattle.led.specs.Held.{isHeld}
-use Rattle.led.proofs.Took.{took}
+use Rattle.led.proofs.Took.{none-taken, took}
 use Rattle.led.proofs.Kept.{Long, Fits, fits-held, fresh-long, fresh-fits, taken-fits}
 use Rattle.reading.specs.declared.Reading.{Reading}
 use Rattle.reading.specs.File.{fileRecords, stop, readBy, readRecords, readFile}
@@ -36,14 +37,18 @@ module _ (by : Round → List ℕ → Step) (r : Round) (p : ℕ) (b : List ℕ)
   unfolding readBy
   read-stops e = simp e
 
--- of a file, where s answers its first record with the number n
-module _ (r : Round) (p : ℕ) (l : List ℕ) (s : Step) (n : ℕ) (long : 16 ≤ length l) (e : s ≡ feed r (take 16 l)) (a : n ≡ numberOf (s .answer)) where
-  pub file-on : n ≡ 0 → readBy feed r p (fileRecords l) ≡ readBy feed (s .round) (p + 1) (fileRecords (drop 16 l))
-  file-on z = rw (records-cons l long, e) (read-on feed r p (take 16 l) (fileRecords (drop 16 l)) (rw (← e, ← a) (eq-eqb n 0 z)))
+-- of a file, where n is the refusal of its first record
+module _ (r : Round) (p : ℕ) (l : List ℕ) (n : ℕ) (long : 16 ≤ length l) (a : n ≡ refusal r (take 16 l)) where
+  pub file-on : n ≡ 0 → readBy feed r p (fileRecords l) ≡ readBy feed (next r (take 16 l)) (p + 1) (fileRecords (drop 16 l))
+  file-on z =
+      let none : refusal r (take 16 l) ≡ 0 = sym a ∙ z in
+      rw (records-cons l long, ← (feed-next r (take 16 l) none))
+      (read-on feed r p (take 16 l) (fileRecords (drop 16 l)) (none-taken r (take 16 l) none))
 
   pub file-stops : (n ≡ 0 → ⊥) → readBy feed r p (fileRecords l) ≡ stop r n p
   file-stops z =
-      rw (records-cons l long, a, e) (read-stops feed r p (take 16 l) (fileRecords (drop 16 l)) (rw (← e, ← a) (ne-eqb n 0 z)))
+      let e : n ≡ numberOf (feed r (take 16 l) .answer) = a ∙ sym (feed-number r (take 16 l)) in
+      rw (records-cons l long, e) (read-stops feed r p (take 16 l) (fileRecords (drop 16 l)) (rw (← e) (ne-eqb n 0 z)))
 
 pub file-ends : (r : Round) (p : ℕ) (l : List ℕ) → length l < 16 → readBy feed r p (fileRecords l) ≡ stop r 0 p
 unfolding readBy

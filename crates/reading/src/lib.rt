@@ -3,7 +3,6 @@
 // A file is a run of 16-byte records with no header. Reading goes over it once and holds one round. Of a longer file than is ever accepted the
 // first 34 records, and how many bytes come after them, are enough for the same answer.
 use round::Round;
-use round::number_of;
 ghost use mathlib.Core.Path.{_≡_};
 ghost use Prim.Native.Nat.{_+_, _*_, _/_, _%_};
 ghost use Rattle.reading.specs.File.{fileRecords, readRecords, readFile, readPrefix, refusedPart};
@@ -23,9 +22,7 @@ fn read_records(file: &[u8]) -> Reading
     let mut round = Round::fresh();
     let mut place = 0;
     while 16 <= rest.len() {
-        let step = round.feed(&rest[..16]);
-        let answer = step.answer;
-        let number = number_of(answer);
+        let number = round.refusal(&rest[..16]);
         if number != 0 {
             return Reading {
                 round,
@@ -33,7 +30,7 @@ fn read_records(file: &[u8]) -> Reading
                 place,
             };
         }
-        round = step.round;
+        round = round.next(&rest[..16]);
         rest = &rest[16..];
         place += 1;
     }

@@ -16,7 +16,7 @@ use round::Round;
 use seating::Table;
 ghost use mathlib.Core.Path.{_≡_};
 ghost use Prim.Native.Nat.{_<_};
-ghost use Rattle.results.specs.Results.{maximum, baseAmount, results, judgedOf, amountsOf, withSeat, resultsOf};
+ghost use Rattle.results.specs.Results.{maximum, baseAmount, results, judgedOf, amountsOf, resultsOf};
 
 // How many amounts a seat has: base, Board, Pocket, Lo Ball.
 pub const SEAT_WAGERS: usize = 4;
@@ -104,18 +104,6 @@ fn amounts_of(round: Round, judged: Judged, k: u8) -> Amounts
     }
 }
 
-// The results list with the amounts of the seat at place `k`.
-fn with_seat(mut list: [u64; RESULTS], k: usize, seat: Amounts) -> [u64; RESULTS]
-    requires { ⌜ k < 7 ⌝ }
-    ensures { λ r. ⌜ r ≡ withSeat list k seat ⌝ }
-{
-    list[SEAT_WAGERS * k] = seat.base;
-    list[SEAT_WAGERS * k + 1] = seat.board;
-    list[SEAT_WAGERS * k + 2] = seat.pocket;
-    list[SEAT_WAGERS * k + 3] = seat.lo;
-    list
-}
-
 fn list_of(round: Round, judged: Judged) -> [u64; RESULTS]
     requires { ⌜ judged ≡ judgedOf round ⌝ }
     ensures { λ r. ⌜ r ≡ results round ⌝ }
@@ -123,8 +111,12 @@ fn list_of(round: Round, judged: Judged) -> [u64; RESULTS]
     let mut list = [0u64; RESULTS];
     let mut k = 0;
     while k < 7 {
-        let next = with_seat(list, k, amounts_of(round, judged, k as u8));
-        list = next;
+        let seat = amounts_of(round, judged, k as u8);
+        let at = SEAT_WAGERS * k;
+        list[at] = seat.base;
+        list[at + 1] = seat.board;
+        list[at + 2] = seat.pocket;
+        list[at + 3] = seat.lo;
         k += 1;
     }
     list

@@ -1,11 +1,11 @@
--- The number of an answer is that of the record's refusal.
+-- What feeding answers, by the record's refusal: the answer's number is the refusal's, and with none the round is the next one.
 -- Assumes nothing.
 use Prim.Native.Nat.{ℕ}
 use mathlib.Core.Path.{_≡_, refl}
 use mathlib.Core.Bool.{Bool, true, false, not}
 use mathlib.Core.List.{List}
 use lib.Dec.{eqb}
-use borrow.Author.Tests.{eqb-true}
+use borrow.Author.Tests.{eqb-true, eq-eqb}
 use Rattle.counting.specs.Choose.{if_then_else_}
 use Rattle.round.specs.declared.Round.{Round}
 use Rattle.round.specs.declared.Answer.the-variants.{Next, Finished}
@@ -23,3 +23,7 @@ feed-number r b = go (eqb (refusal r b) 0) refl
     go : (t : Bool) → eqb (refusal r b) 0 ≡ t → numberOf ((if not t then refused (refusal r b) r else accepted (next r b)) .answer) ≡ refusal r b
     go true e = rw (eqb-true (refusal r b) 0 e) (on-or-finished (isFinished (next r b)))
     go false e = refl
+
+pub feed-next : (r : Round) (b : List ℕ) → refusal r b ≡ 0 → feed r b .round ≡ next r b
+unfolding feed
+feed-next r b e = simp (eq-eqb (refusal r b) 0 e)

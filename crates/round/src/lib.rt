@@ -13,7 +13,7 @@ use seating::table_of;
 use seating::table_refusal;
 ghost use mathlib.Core.Path.{_≡_};
 ghost use Rattle.round.specs.Order.{freshRound, isPlaying, isFinished, mayCome};
-ghost use Rattle.round.specs.Feed.{kindRefusal, refusal, next, refused, accepted, feed, numberOf};
+ghost use Rattle.round.specs.Feed.{kindRefusal, refusal, next, refused, accepted, feed};
 
 pub struct Round {
     pub table: Table,
@@ -33,17 +33,6 @@ pub enum Answer {
 pub struct Step {
     pub answer: Answer,
     pub round: Round,
-}
-
-// This paper's number of an answer: the refusal's, and 0 where the record was taken.
-pub fn number_of(answer: Answer) -> u8
-    ensures { λ r. ⌜ r ≡ numberOf answer ⌝ }
-{
-    match answer {
-        Answer::Next => 0,
-        Answer::Finished => 0,
-        Answer::Refused(number) => number,
-    }
 }
 
 impl Round {
@@ -137,8 +126,8 @@ impl Round {
         self.kind_refusal(bytes)
     }
 
-    // The round with what a record says, by its kind.
-    fn next(mut self, bytes: &[u8]) -> Round
+    // The round with what a record says, by its kind; whether the record is refused is for `refusal` to say.
+    pub fn next(mut self, bytes: &[u8]) -> Round
         ensures { λ r. ⌜ r ≡ next self (now (bytes .entry)) ⌝ }
     {
         let kind = byte_at(bytes, 0);

@@ -1,17 +1,14 @@
+use mathlib.Core.Path.{sym, _∙_}
+use Rattle.cards.proofs.Decks.{faulty-whole}
 use borrow.Author.Needs.{needs}
-use Rattle.cards.specs.Deck.{faulty}
 use Rattle.cards.proofs.is_faulty.Statement.{statement}
 use Rattle.cards.proofs.is_faulty.Tie as tie
 
-are-cards-requires : tie.Need-are-cards-requires
-are-cards-requires c κs = search needs
-
-has-repeat-requires : tie.Need-has-repeat-requires
-has-repeat-requires c κs = search needs
+is-faulty-from-requires : tie.Need-is-faulty-from-requires
+is-faulty-from-requires c κs = search needs
 
 returns : tie.Need-returns
-unfolding faulty
-returns c = simp (c .has-repeat .ensures, c .before .are-cards .ensures)
+returns c = c .is-faulty-from .ensures ∙ sym (faulty-whole _)
 
 pub is-faulty-spec : {M : Type 1} → statement M
-is-faulty-spec = tie.close (tie.spec are-cards-requires has-repeat-requires returns)
+is-faulty-spec = tie.close (tie.spec is-faulty-from-requires returns)

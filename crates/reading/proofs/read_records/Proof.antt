@@ -24,20 +24,22 @@ fresh-requires c κs = search needs
 loop-holds : tie.Need-loop-holds Inv-loop μ-loop
 loop-holds c = (search needs, simp (c .fresh .ensures))
 
-slice-aggregate-feed : tie.Need-slice-aggregate-feed Inv-loop μ-loop
-slice-aggregate-feed c = simp length-take (omega arith)
+slice-aggregate-refusal : tie.Need-slice-aggregate-refusal Inv-loop μ-loop
+slice-aggregate-refusal c = simp length-take (omega arith)
 
-feed-requires : tie.Need-feed-requires Inv-loop μ-loop
-feed-requires c κs = search needs
-
-number-of-requires : tie.Need-number-of-requires Inv-loop μ-loop
-number-of-requires c κs = search needs
+refusal-requires : tie.Need-refusal-requires Inv-loop μ-loop
+refusal-requires c κs = search needs
 
 returns : tie.Need-returns Inv-loop μ-loop
 returns c =
-    let f = c .before .before in
-    let t = f .before .before in
-    sym (t .before .loop .inv .1 ∙ file-stops _ _ _ _ _ (t .loop-test .taken) (f .feed .ensures) (c .before .number-of .ensures) (c .if1 .taken))
+    let t = c .before .before .before in
+    sym (t .before .loop .inv .1 ∙ file-stops _ _ _ _ (t .loop-test .taken) (c .before .refusal .ensures) (c .if1 .taken))
+
+slice-aggregate-next : tie.Need-slice-aggregate-next Inv-loop μ-loop
+slice-aggregate-next c = simp length-take (omega arith)
+
+next-requires : tie.Need-next-requires Inv-loop μ-loop
+next-requires c κs = search needs
 
 sub-rest : tie.Need-sub-rest Inv-loop μ-loop
 sub-rest c = search needs
@@ -56,12 +58,11 @@ loop-less c = search needs
 
 loop-again : tie.Need-loop-again Inv-loop μ-loop
 loop-again c =
-    let i = c .before .before in
-    let f = i .before .before in
-    let t = f .before .before in (
+    let i = c .before .before .before in
+    let t = i .before .before .before in (
       simp (rest-of, length-drop) (omega arith),
-      simp rest-of
-          (t .before .loop .inv .1 ∙ file-on _ _ _ _ _ (t .loop-test .taken) (f .feed .ensures) (i .before .number-of .ensures) (i .if1 .left)),
+      simp (rest-of, c .before .next .ensures)
+          (t .before .loop .inv .1 ∙ file-on _ _ _ _ (t .loop-test .taken) (i .before .refusal .ensures) (i .if1 .left)),
     )
 
 returns-2 : tie.Need-returns-2 Inv-loop μ-loop
@@ -75,10 +76,11 @@ read-records-spec =
     μ-loop
     fresh-requires
     loop-holds
-    slice-aggregate-feed
-    feed-requires
-    number-of-requires
+    slice-aggregate-refusal
+    refusal-requires
     returns
+    slice-aggregate-next
+    next-requires
     sub-rest
     part-rest-start
     part-rest-end

@@ -23,8 +23,41 @@ cast-amounts-of c = search needs
 amounts-of-requires : tie.Need-amounts-of-requires Inv-loop μ-loop
 amounts-of-requires c κs = (c .loop-test .taken, c .before .before .pre)
 
-with-seat-requires : tie.Need-with-seat-requires Inv-loop μ-loop
-with-seat-requires c κs = c .before .loop-test .taken
+mul-at : tie.Need-mul-at Inv-loop μ-loop
+mul-at c = search needs
+
+mul-list : tie.Need-mul-list Inv-loop μ-loop
+mul-list c = search needs
+
+array-write-list : tie.Need-array-write-list Inv-loop μ-loop
+array-write-list c = search needs
+
+add-list : tie.Need-add-list Inv-loop μ-loop
+add-list c = search needs
+
+mul-list-2 : tie.Need-mul-list-2 Inv-loop μ-loop
+mul-list-2 c = search needs
+
+array-write-list-2 : tie.Need-array-write-list-2 Inv-loop μ-loop
+array-write-list-2 c = search needs
+
+add-list-2 : tie.Need-add-list-2 Inv-loop μ-loop
+add-list-2 c = search needs
+
+mul-list-3 : tie.Need-mul-list-3 Inv-loop μ-loop
+mul-list-3 c = search needs
+
+array-write-list-3 : tie.Need-array-write-list-3 Inv-loop μ-loop
+array-write-list-3 c = search needs
+
+add-list-3 : tie.Need-add-list-3 Inv-loop μ-loop
+add-list-3 c = search needs
+
+mul-list-4 : tie.Need-mul-list-4 Inv-loop μ-loop
+mul-list-4 c = search needs
+
+array-write-list-4 : tie.Need-array-write-list-4 Inv-loop μ-loop
+array-write-list-4 c = search needs
 
 add-k : tie.Need-add-k Inv-loop μ-loop
 add-k c = search needs
@@ -33,9 +66,7 @@ loop-less : tie.Need-loop-less Inv-loop μ-loop
 loop-less c = search needs
 
 loop-again : tie.Need-loop-again Inv-loop μ-loop
-loop-again c =
-    let v = c .before .before .before .loop .inv in
-    (omega arith, rw (c .with-seat .ensures) (next-seat _ _ _ _ (v .1) (c .before .before .loop-test .taken) (c .before .amounts-of .ensures)))
+loop-again c = (omega arith, next-seat _ _ _ _ (c .before .before .loop .inv .1) (c .before .loop-test .taken) (c .amounts-of .ensures))
 
 returns : tie.Need-returns Inv-loop μ-loop
 returns c = all-seats _ _ _ (c .before .loop .inv .1) (c .loop-test .left)
@@ -49,7 +80,18 @@ list-of-spec =
     loop-holds
     cast-amounts-of
     amounts-of-requires
-    with-seat-requires
+    mul-at
+    mul-list
+    array-write-list
+    add-list
+    mul-list-2
+    array-write-list-2
+    add-list-2
+    mul-list-3
+    array-write-list-3
+    add-list-3
+    mul-list-4
+    array-write-list-4
     add-k
     loop-less
     loop-again

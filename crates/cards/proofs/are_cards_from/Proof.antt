@@ -1,5 +1,5 @@
 use Prim.Native.Nat.{_≤_, _<_, _-_}
-use mathlib.Core.Path.{_≡_, sym, _∙_}
+use mathlib.Core.Path.{_≡_, refl, sym, _∙_}
 use native.Mathlib.Omega.{arith}
 use lib.ListN.{length, drop, getD}
 use borrow.Author.Tests.{le-leb, lt-leb}
@@ -7,17 +7,17 @@ use borrow.Author.Needs.{needs}
 use Rattle.counting.specs.Count.{everyOf}
 use Rattle.counting.proofs.Lists.{everyOf-step, everyOf-end}
 use Rattle.cards.specs.Card.{isCard}
-use Rattle.cards.proofs.are_cards.Statement.{statement}
-use Rattle.cards.proofs.are_cards.Tie as tie
+use Rattle.cards.proofs.are_cards_from.Statement.{statement}
+use Rattle.cards.proofs.are_cards_from.Tie as tie
 
 abbrev Inv-loop : tie.InvT-loop
-Inv-loop cards i₀ i = (i ≤ length cards) × (everyOf isCard cards ≡ everyOf isCard (drop i cards))
+Inv-loop cards from i₀ i = everyOf isCard (drop from cards) ≡ everyOf isCard (drop i cards)
 
 abbrev μ-loop : tie.MeasureT-loop
-μ-loop cards i₀ i = length cards - i
+μ-loop cards from i₀ i = length cards - i
 
 loop-holds : tie.Need-loop-holds Inv-loop μ-loop
-loop-holds c = search needs
+loop-holds c = refl
 
 shared-slice-read-if1 : tie.Need-shared-slice-read-if1 Inv-loop μ-loop
 shared-slice-read-if1 c = search needs
@@ -26,7 +26,7 @@ returns : tie.Need-returns Inv-loop μ-loop
 returns c =
     let p = c .before .before in
     let h : 51 < getD (p .before .before .args .cards .now) (p .before .loop .i) 0 = omega arith in
-    sym (p .before .loop .inv .1 ∙ everyOf-step isCard _ _ (p .loop-test .taken) ∙ simp (lt-leb _ _ h))
+    sym (p .before .loop .inv ∙ everyOf-step isCard _ _ (p .loop-test .taken) ∙ simp (lt-leb _ _ h))
 
 add-i : tie.Need-add-i Inv-loop μ-loop
 add-i c = search needs
@@ -38,13 +38,13 @@ loop-again : tie.Need-loop-again Inv-loop μ-loop
 loop-again c =
     let p = c .before .before in
     let h : getD (p .before .before .args .cards .now) (p .before .loop .i) 0 ≤ 51 = omega arith in
-    (search needs, p .before .loop .inv .1 ∙ everyOf-step isCard _ _ (p .loop-test .taken) ∙ simp (le-leb _ _ h))
+    p .before .loop .inv ∙ everyOf-step isCard _ _ (p .loop-test .taken) ∙ simp (le-leb _ _ h)
 
 returns-2 : tie.Need-returns-2 Inv-loop μ-loop
-returns-2 c = sym (c .before .loop .inv .1 ∙ everyOf-end isCard _ _ (c .loop-test .left))
+returns-2 c = sym (c .before .loop .inv ∙ everyOf-end isCard _ _ (c .loop-test .left))
 
-pub are-cards-spec : {M : Type 1} → statement M
-are-cards-spec =
+pub are-cards-from-spec : {M : Type 1} → statement M
+are-cards-from-spec =
     tie.close
     (tie.spec
     Inv-loop
