@@ -1,0 +1,139 @@
+// The settler for a pad that is written in C or in Rust: functions on numbers and slices, exported under names that begin with the product's.
+//
+// ripplehatch.h declares them. Each answers a refusal's number, or 0, and tells the rest in what the caller lends; what is not told is left as it was,
+// so a refusal changes nothing that was lent but the place. None has a `requires`.
+use names::FiveAnswer;
+use names::name_five;
+use odds::five_place;
+use pool::Shared;
+use pool::share;
+use reading::read_file;
+use reading::refused_part;
+use settlement::FileSettlement;
+use settlement::settle_file;
+ghost use mathlib.Core.Path.{_≡_};
+ghost use Prim.Native.Nat.{_*_};
+ghost use lib.ListN.{length};
+ghost use Rattle.names.specs.Five.{answerFive, fiveNumber};
+ghost use Rattle.pool.specs.Pool.{shareAnswer, shareList, numberOf};
+ghost use Rattle.reading.specs.File.{readFile, refusedPart};
+ghost use Rattle.settlement.specs.Settle.{fileAnswer, fileList, fileNumber};
+ghost use Rattle.ripplehatch.specs.Told.{fullTold, paidTold, placeTold, nameTold};
+
+fn number_of(answer: FileSettlement) -> u8
+    ensures { λ r. ⌜ r ≡ fileNumber answer ⌝ }
+{
+    match answer {
+        FileSettlement::Paid { full, paid } => 0,
+        FileSettlement::Refused { number, place } => number,
+    }
+}
+
+fn full_told(answer: FileSettlement, was: u64) -> u64
+    ensures { λ r. ⌜ r ≡ fullTold answer was ⌝ }
+{
+    match answer {
+        FileSettlement::Paid { full, paid } => full,
+        FileSettlement::Refused { number, place } => was,
+    }
+}
+
+fn paid_told(answer: FileSettlement, was: u64) -> u64
+    ensures { λ r. ⌜ r ≡ paidTold answer was ⌝ }
+{
+    match answer {
+        FileSettlement::Paid { full, paid } => paid,
+        FileSettlement::Refused { number, place } => was,
+    }
+}
+
+fn place_told(answer: FileSettlement, was: usize) -> usize
+    ensures { λ r. ⌜ r ≡ placeTold answer was ⌝ }
+{
+    match answer {
+        FileSettlement::Paid { full, paid } => was,
+        FileSettlement::Refused { number, place } => place,
+    }
+}
+
+// Settles a file into a list of 28 numbers. Answers 0 and tells the pool in dollars, full and as paid; or answers the refusal's number and tells its
+// place.
+#[no_mangle]
+pub extern "C" fn ripplehatch_settle_file(
+    file: &[u8],
+    results: &mut [u64],
+    full: &mut u64,
+    paid: &mut u64,
+    place: &mut usize,
+) -> u8
+    ensures number { λ r. ⌜ r ≡ fileNumber (fileAnswer (now (file .entry)) (length (now (results .entry)))) ⌝ }
+    ensures list { λ r. ⌜ now (results .exit) ≡ fileList (now (file .entry)) (now (results .entry)) ⌝ }
+    ensures full { λ r. ⌜ now (full .exit) ≡ fullTold (fileAnswer (now (file .entry)) (length (now (results .entry)))) (now (full .entry)) ⌝ }
+    ensures paid { λ r. ⌜ now (paid .exit) ≡ paidTold (fileAnswer (now (file .entry)) (length (now (results .entry)))) (now (paid .entry)) ⌝ }
+    ensures place { λ r. ⌜ now (place .exit) ≡ placeTold (fileAnswer (now (file .entry)) (length (now (results .entry)))) (now (place .entry)) ⌝ }
+{
+    let answer = settle_file(file, results);
+    *full = full_told(answer, *full);
+    *paid = paid_told(answer, *paid);
+    *place = place_told(answer, *place);
+    number_of(answer)
+}
+
+// The byte of the file at which its refused part begins, and how long it is: 16 for a refused record, the odd bytes for 2, else 0, at the end.
+#[no_mangle]
+pub extern "C" fn ripplehatch_refused_part(file: &[u8], long: &mut usize) -> usize
+    ensures begins { λ r. ⌜ r ≡ 16 * readFile (now (file .entry)) .place ⌝ }
+    ensures long { λ r. ⌜ now (long .exit) ≡ length (refusedPart (now (file .entry))) ⌝ }
+{
+    *long = refused_part(file).len();
+    let reading = read_file(file);
+    16 * reading.place
+}
+
+fn hand_number(answer: FiveAnswer) -> u8
+    ensures { λ r. ⌜ r ≡ fiveNumber answer ⌝ }
+{
+    match answer {
+        FiveAnswer::Name(name) => 0,
+        FiveAnswer::Refused(number) => number,
+    }
+}
+
+fn name_told(answer: FiveAnswer, was: usize) -> usize
+    ensures { λ r. ⌜ r ≡ nameTold answer was ⌝ }
+{
+    match answer {
+        FiveAnswer::Name(name) => five_place(name),
+        FiveAnswer::Refused(number) => was,
+    }
+}
+
+// Names five cards. Answers 0 and tells the name's place in the list of names, 0 for a royal flush to 10 for other; or answers 18 or 11.
+#[no_mangle]
+pub extern "C" fn ripplehatch_name_five(cards: &[u8], name: &mut usize) -> u8
+    ensures number { λ r. ⌜ r ≡ fiveNumber (answerFive (now (cards .entry))) ⌝ }
+    ensures name { λ r. ⌜ now (name .exit) ≡ nameTold (answerFive (now (cards .entry))) (now (name .entry)) ⌝ }
+{
+    let answer = name_five(cards);
+    *name = name_told(answer, *name);
+    hand_number(answer)
+}
+
+fn share_number(answer: Shared) -> u8
+    ensures { λ r. ⌜ r ≡ numberOf answer ⌝ }
+{
+    match answer {
+        Shared::Full => 0,
+        Shared::Cut => 0,
+        Shared::Refused(number) => number,
+    }
+}
+
+// Shares a maximum among up to seven wins, into a list as long. Answers 0, or 19 or 20.
+#[no_mangle]
+pub extern "C" fn ripplehatch_share(wins: &[u64], maximum: u64, shares: &mut [u64]) -> u8
+    ensures number { λ r. ⌜ r ≡ numberOf (shareAnswer (now (wins .entry)) maximum (length (now (shares .entry)))) ⌝ }
+    ensures list { λ r. ⌜ now (shares .exit) ≡ shareList (now (wins .entry)) maximum (now (shares .entry)) ⌝ }
+{
+    share_number(share(wins, maximum, shares))
+}

@@ -1,0 +1,55 @@
+use Prim.Native.Nat.{_≤_, _-_}
+use mathlib.Core.Path.{_≡_}
+use lib.ListN.{length}
+use borrow.Author.Needs.{needs}
+use Rattle.rounds.proofs.main.Statement.{statement}
+use Rattle.rounds.proofs.main.Tie as tie
+
+abbrev Inv-loop : tie.InvT-loop
+Inv-loop room₀ files₀ room files = (65536 ≡ length room) × (files ≤ 1099511627776)
+
+abbrev μ-loop : tie.MeasureT-loop
+μ-loop room₀ files₀ room files = 1099511627776 - files
+
+large-buffer-requires : tie.Need-large-buffer-requires Inv-loop μ-loop
+large-buffer-requires c κs = search needs
+
+loop-holds : tie.Need-loop-holds Inv-loop μ-loop
+loop-holds c = search needs
+
+slice-aggregate-answer-next : tie.Need-slice-aggregate-answer-next Inv-loop μ-loop
+slice-aggregate-answer-next c = search needs
+
+answer-next-requires : tie.Need-answer-next-requires Inv-loop μ-loop
+answer-next-requires c κs = search needs
+
+add-files : tie.Need-add-files Inv-loop μ-loop
+add-files c = search needs
+
+loop-less : tie.Need-loop-less Inv-loop μ-loop
+loop-less c = search needs
+
+loop-again : tie.Need-loop-again Inv-loop μ-loop
+loop-again c = search needs
+
+returns : tie.Need-returns Inv-loop μ-loop
+returns c = search needs
+
+returns-2 : tie.Need-returns-2 Inv-loop μ-loop
+returns-2 c = search needs
+
+pub main-spec : {M : Type 1} → statement M
+main-spec =
+    tie.close
+    (tie.spec
+    Inv-loop
+    μ-loop
+    large-buffer-requires
+    loop-holds
+    slice-aggregate-answer-next
+    answer-next-requires
+    add-files
+    loop-less
+    loop-again
+    returns
+    returns-2)

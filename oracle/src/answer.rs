@@ -1,0 +1,92 @@
+//! The printed answers.
+
+use crate::reading::{read, Refusal};
+use crate::settle::{part_of_answer, settle, settle_round, Answer};
+
+/// What the settling program prints for a file: "each playing seat's number
+/// and four amounts in cents; then the pool in dollars, full and as paid".
+pub fn lines(file: &[u8]) -> String {
+    let round = match read(file) {
+        Ok(round) => round,
+        Err(Refusal { number, place }) => return format!("refused {number} at {place}\n"),
+    };
+    let mut text = Vec::new();
+    if let Answer::Paid {
+        amounts,
+        full,
+        paid,
+    } = settle_round(&round)
+    {
+        for seat in &round.seats {
+            let first = 4 * usize::from(seat.number - 1);
+            push_number(&mut text, u64::from(seat.number));
+            push_numbers(&mut text, &amounts[first..first + 4]);
+            text.push(b'\n');
+        }
+        text.extend_from_slice(b"pool");
+        push_numbers(&mut text, &[full, paid]);
+        text.push(b'\n');
+    }
+    text.into_iter().map(char::from).collect()
+}
+
+/// Appends the one line that a file of a stream is answered with.
+pub fn push_stream_line(out: &mut Vec<u8>, file: &[u8]) {
+    let answer = settle(file);
+    match &answer {
+        Answer::Paid {
+            amounts,
+            full,
+            paid,
+        } => {
+            out.extend_from_slice(b"paid");
+            push_numbers(out, amounts);
+            out.extend_from_slice(b" pool");
+            push_numbers(out, &[*full, *paid]);
+        }
+        Answer::Refused { number, place } => {
+            out.extend_from_slice(b"refused");
+            push_numbers(out, &[u64::from(*number)]);
+            out.extend_from_slice(b" at");
+            push_numbers(out, &[*place as u64]);
+        }
+    }
+    let (begin, part) = part_of_answer(file, &answer);
+    out.extend_from_slice(b" part");
+    push_numbers(out, &[begin as u64]);
+    push_hex(out, part);
+    out.push(b'\n');
+}
+
+fn push_hex(out: &mut Vec<u8>, part: &[u8]) {
+    const DIGITS: &[u8; 16] = b"0123456789abcdef";
+    if !part.is_empty() {
+        out.push(b' ');
+    }
+    for byte in part {
+        out.push(DIGITS[usize::from(byte >> 4)]);
+        out.push(DIGITS[usize::from(byte & 15)]);
+    }
+}
+
+/// Appends each number with a space before it.
+fn push_numbers(out: &mut Vec<u8>, numbers: &[u64]) {
+    for &number in numbers {
+        out.push(b' ');
+        push_number(out, number);
+    }
+}
+
+fn push_number(out: &mut Vec<u8>, mut number: u64) {
+    let mut digits = [0; 20];
+    let mut from = digits.len();
+    loop {
+        from -= 1;
+        digits[from] = b'0' + (number % 10) as u8;
+        number /= 10;
+        if number == 0 {
+            break;
+        }
+    }
+    out.extend_from_slice(&digits[from..]);
+}

@@ -1,0 +1,353 @@
+//! A valid finished round, before it is written as a file.
+
+use super::prng::Prng;
+use super::stacks::{self, Stacked, STACKS};
+use crate::names::{five_name, FiveName};
+use crate::paytables::{BASE_TABLES, BOARD_TABLES, LO_BALL_TABLES, POCKET_TABLES};
+use crate::pool;
+use crate::reading::{CARDS_IN_PART, CHOICE, DECK_PART, MOST_SEATS, RECORD, SEAT, TABLE};
+
+pub const FOLDS: [&str; 10] = [
+    "nobody folds",
+    "some fold on street one",
+    "some fold on street two",
+    "some fold on street three",
+    "some fold on any street",
+    "everyone folds on street one",
+    "everyone folds on street one, side wagers placed",
+    "everyone folds on street two",
+    "everyone folds on street three",
+    "everyone folds, on any street",
+];
+const SIDES_PLACED: usize = 6;
+
+pub const POOLS: [&str; 6] = [
+    "no pooled hand stacked",
+    "wagers of a pooled hand by chance",
+    "pool at the maximum",
+    "pool just under the maximum",
+    "pool just above the maximum",
+    "a pooled hand folds",
+];
+const BY_CHANCE: usize = 1;
+const AT: usize = 2;
+const UNDER: usize = 3;
+const POOLED_FOLDS: usize = 5;
+
+#[derive(Clone)]
+pub struct DraftSeat {
+    pub number: u8,
+    pub ante: usize,
+    /// Board, Pocket, Lo Ball.
+    pub sides: [usize; 3],
+    pub raises: [u8; 3],
+    /// The street, from 0, on which the seat folds.
+    pub folds: Option<usize>,
+}
+
+impl DraftSeat {
+    pub fn chooses_on(&self, street: usize) -> bool {
+        self.folds.is_none_or(|folds| folds >= street)
+    }
+
+    fn base_wager(&self) -> usize {
+        let raises: u8 = self.raises.iter().sum();
+        self.ante * (1 + usize::from(raises))
+    }
+
+    fn draw_wager(&mut self, rng: &mut Prng, smallest: usize, largest: usize) {
+        self.ante = wager(rng, smallest, largest);
+        self.raises = [0; 3].map(|_| rng.between(1, 3) as u8);
+    }
+
+    /// Raises by so many antes in all, 3 to 9 of them.
+    fn raise_in_all(&mut self, rng: &mut Prng, antes: usize) {
+        self.raises = [1; 3];
+        for _ in 3..antes {
+            let from = rng.below(3);
+            let open = (0..3).map(|turn| (from + turn) % 3);
+            if let Some(street) = open.into_iter().find(|&street| self.raises[street] < 3) {
+                self.raises[street] += 1;
+            }
+        }
+    }
+}
+
+pub struct Draft {
+    pub smallest: usize,
+    pub largest: usize,
+    /// Base, Lo Ball, Board, Pocket.
+    pub tables: [u8; 4],
+    pub seats: Vec<DraftSeat>,
+    pub deck: Vec<u8>,
+    /// Seat and choice, in the order of the file.
+    pub choices: Vec<[u8; 2]>,
+    /// Places in `STACKS`, `FOLDS` and `POOLS`.
+    pub stack: usize,
+    pub folds: usize,
+    pub pool: usize,
+}
+
+impl Draft {
+    pub fn new(rng: &mut Prng) -> Draft {
+        let stack = stacks::pick(rng);
+        let stacked = STACKS[stack].make(rng);
+        let numbers = seat_numbers(rng, stacked.pockets.len().max(1));
+        let deck = deal(rng, &stacked, numbers.len());
+        let smallest = end_or_between(rng, 5, 15);
+        let largest = end_or_between(rng, 25, 100);
+        let tables = [BASE_TABLES, LO_BALL_TABLES, BOARD_TABLES, POCKET_TABLES];
+        let mut draft = Draft {
+            smallest,
+            largest,
+            tables: tables.map(|count| rng.between(1, count) as u8),
+            seats: Vec::with_capacity(numbers.len()),
+            deck,
+            choices: Vec::with_capacity(3 * MOST_SEATS),
+            stack,
+            folds: rng.below(FOLDS.len()),
+            pool: 0,
+        };
+        if rng.one_in(2) {
+            draft.folds = 0;
+        }
+        for number in numbers {
+            draft.seat(rng, number);
+        }
+        draft.one_folds_at_least(rng);
+        draft.aim_pool(rng);
+        draft.choose(rng);
+        draft
+    }
+
+    fn seat(&mut self, rng: &mut Prng, number: u8) {
+        let least = usize::from(self.folds == SIDES_PLACED);
+        let any_street = rng.below(3);
+        let some = rng.one_in(2);
+        let folds = match self.folds {
+            street @ 1..=3 if some => Some(street - 1),
+            4 if some => Some(any_street),
+            5 | 6 => Some(0),
+            7 => Some(1),
+            8 => Some(2),
+            9 => Some(any_street),
+            _ => None,
+        };
+        let mut seat = DraftSeat {
+            number,
+            ante: 0,
+            sides: [0; 3].map(|_| side_wager(rng, self.largest).max(least)),
+            raises: [1; 3],
+            folds,
+        };
+        seat.draw_wager(rng, self.smallest, self.largest);
+        self.seats.push(seat);
+    }
+
+    /// Where some fold, at least one does.
+    fn one_folds_at_least(&mut self, rng: &mut Prng) {
+        let street = match self.folds {
+            street @ 1..=3 => street - 1,
+            4 => rng.below(3),
+            _ => return,
+        };
+        if self.seats.iter().all(|seat| seat.folds.is_none()) {
+            let order = rng.below(self.seats.len());
+            self.seats[order].folds = Some(street);
+        }
+    }
+
+    /// The places, among the playing seats, of the hands that would be pooled,
+    /// with their odds.
+    fn pooled(&self) -> Vec<(usize, usize)> {
+        let deck = &self.deck;
+        let board = 2 * self.seats.len();
+        let mut pooled = Vec::new();
+        for order in 0..self.seats.len() {
+            let [a, b] = [deck[2 * order], deck[2 * order + 1]];
+            match five_name([a, b, deck[board], deck[board + 1], deck[board + 2]]) {
+                FiveName::RoyalFlush => pooled.push((order, 500)),
+                FiveName::StraightFlush => pooled.push((order, 100)),
+                _ => (),
+            }
+        }
+        pooled
+    }
+
+    /// Sets the wagers of pooled hands so that the pool comes where it is
+    /// wanted.
+    fn aim_pool(&mut self, rng: &mut Prng) {
+        let pooled = self.pooled();
+        let Some(&(last, odds)) = pooled.last() else {
+            return;
+        };
+        self.pool = rng.between(BY_CHANCE, POOLED_FOLDS);
+        if self.pool == POOLED_FOLDS {
+            let (order, _) = pooled[rng.below(pooled.len())];
+            self.seats[order].folds = Some(rng.below(3));
+            return;
+        }
+        if self.pool == BY_CHANCE {
+            return;
+        }
+        for _ in 0..30 {
+            let mut before = 0;
+            for &(order, odds) in &pooled {
+                self.seats[order].folds = None;
+                self.seats[order].draw_wager(rng, self.smallest, self.largest);
+                before += odds * self.seats[order].base_wager();
+            }
+            before -= odds * self.seats[last].base_wager();
+            if self.aim_last(rng, last, odds, before) {
+                return;
+            }
+        }
+        self.pool = BY_CHANCE;
+    }
+
+    /// Sets the last pooled seat's wager for a pool of `before` without it;
+    /// false where no wager brings the pool to its aim.
+    fn aim_last(&mut self, rng: &mut Prng, last: usize, odds: usize, before: usize) -> bool {
+        let maximum = pool::maximum(self.smallest as u8) as usize;
+        let mut wagers = Vec::new();
+        for ante in self.smallest..=self.largest {
+            for raises in 3..=9 {
+                let total = before + odds * ante * (1 + raises);
+                if self.is_aim(total, maximum) {
+                    wagers.push((total.abs_diff(maximum), ante, raises));
+                }
+            }
+        }
+        let nearest = wagers.iter().map(|wager| wager.0).min();
+        wagers.retain(|wager| Some(wager.0) == nearest);
+        let Some((_, ante, raises)) = rng.pick(&wagers) else {
+            return false;
+        };
+        self.seats[last].ante = ante;
+        self.seats[last].raise_in_all(rng, raises);
+        true
+    }
+
+    fn is_aim(&self, total: usize, maximum: usize) -> bool {
+        match self.pool {
+            AT => total == maximum,
+            UNDER => total < maximum,
+            _ => total > maximum,
+        }
+    }
+
+    /// "On each, every seat still in chooses once, seats in any order."
+    fn choose(&mut self, rng: &mut Prng) {
+        for street in 0..3 {
+            let mut choices = Vec::with_capacity(MOST_SEATS);
+            for seat in self.seats.iter().filter(|seat| seat.chooses_on(street)) {
+                let choice = if seat.folds == Some(street) {
+                    0
+                } else {
+                    seat.raises[street]
+                };
+                choices.push([seat.number, choice]);
+            }
+            rng.shuffle(&mut choices);
+            self.choices.append(&mut choices);
+        }
+    }
+
+    pub fn file(&self) -> Vec<u8> {
+        let mut file = Vec::with_capacity(48 * RECORD);
+        let [base, lo_ball, board, pocket] = self.tables;
+        let limits = [self.smallest as u8, self.largest as u8];
+        let table = [TABLE, limits[0], limits[1], base, lo_ball, board, pocket];
+        file.extend_from_slice(&record(&table));
+        for seat in &self.seats {
+            file.extend_from_slice(&seat_record(seat));
+        }
+        for (part, cards) in self.deck.chunks(CARDS_IN_PART).enumerate() {
+            let mut whole = record(&[DECK_PART, part as u8]);
+            whole[2..2 + cards.len()].copy_from_slice(cards);
+            file.extend_from_slice(&whole);
+        }
+        for [seat, choice] in &self.choices {
+            file.extend_from_slice(&record(&[CHOICE, *seat, *choice]));
+        }
+        file
+    }
+}
+
+/// A record that begins with these bytes.
+pub fn record(bytes: &[u8]) -> [u8; RECORD] {
+    let mut whole = [0; RECORD];
+    for (to, from) in whole.iter_mut().zip(bytes) {
+        *to = *from;
+    }
+    whole
+}
+
+pub fn seat_record(seat: &DraftSeat) -> [u8; RECORD] {
+    let mut whole = record(&[SEAT, seat.number]);
+    let [board, pocket, lo_ball] = seat.sides;
+    for (order, wager) in [seat.ante, board, pocket, lo_ball].into_iter().enumerate() {
+        let at = 2 + 2 * order;
+        whole[at..at + 2].copy_from_slice(&(wager as u16).to_le_bytes());
+    }
+    whole
+}
+
+/// Rising seat numbers with gaps, at least so many.
+fn seat_numbers(rng: &mut Prng, least: usize) -> Vec<u8> {
+    let mut numbers: Vec<u8> = (1..=MOST_SEATS as u8).collect();
+    rng.shuffle(&mut numbers);
+    numbers.truncate(rng.between(1, MOST_SEATS).max(least));
+    numbers.sort_unstable();
+    numbers
+}
+
+/// A shuffled deck with the stacked cards moved to where they are dealt.
+fn deal(rng: &mut Prng, stacked: &Stacked, seats: usize) -> Vec<u8> {
+    let mut deck: Vec<u8> = (0..52).collect();
+    rng.shuffle(&mut deck);
+    let mut orders: Vec<usize> = (0..seats).collect();
+    rng.shuffle(&mut orders);
+    for (cards, order) in stacked.pockets.iter().zip(orders) {
+        move_card(&mut deck, cards[0], 2 * order);
+        move_card(&mut deck, cards[1], 2 * order + 1);
+    }
+    for (place, &card) in stacked.board.iter().enumerate() {
+        move_card(&mut deck, card, 2 * seats + place);
+    }
+    if stacked.card_zero_late {
+        move_card(&mut deck, 0, 39 + rng.below(13));
+    }
+    deck
+}
+
+fn move_card(deck: &mut [u8], card: u8, place: usize) {
+    if let Some(found) = deck.iter().position(|&other| other == card) {
+        deck.swap(found, place);
+    }
+}
+
+fn end_or_between(rng: &mut Prng, least: usize, most: usize) -> usize {
+    match rng.below(4) {
+        0 => least,
+        1 => most,
+        _ => rng.between(least, most),
+    }
+}
+
+fn wager(rng: &mut Prng, smallest: usize, largest: usize) -> usize {
+    match rng.below(5) {
+        0 => smallest,
+        1 => largest,
+        _ => rng.between(smallest, largest),
+    }
+}
+
+fn side_wager(rng: &mut Prng, largest: usize) -> usize {
+    match rng.below(5) {
+        0 => 0,
+        1 => 1,
+        2 => largest,
+        _ => rng.between(0, largest),
+    }
+}

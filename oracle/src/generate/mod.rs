@@ -1,0 +1,87 @@
+//! Makes round files to be settled: valid finished rounds, and damaged ones.
+
+pub mod draft;
+pub mod prng;
+pub mod stacks;
+pub mod ways;
+
+use draft::Draft;
+use prng::Prng;
+use ways::{Expected, Way};
+
+pub struct Generator {
+    seed: u64,
+    pub ways: Vec<Way>,
+    /// From here on stand the ways of several faults and of chance.
+    first_favoured: usize,
+}
+
+pub struct Made {
+    pub file: Vec<u8>,
+    pub draft: Draft,
+    /// The place in the list of ways, and what must be answered; none for a
+    /// valid round.
+    pub damage: Option<(usize, Expected)>,
+}
+
+/// Of so many files in a row so many are damaged.
+const ROW: u64 = 20;
+const DAMAGED: u64 = 9;
+
+/// Drafts tried for a way before it is given up.
+const TRIES: usize = 1_000;
+
+impl Generator {
+    pub fn new(seed: u64) -> Generator {
+        let ways = ways::all();
+        let several = ways.iter().position(|way| way.name.starts_with("several"));
+        Generator {
+            seed,
+            first_favoured: several.unwrap_or(0),
+            ways,
+        }
+    }
+
+    /// The file at a place of the stream; it depends on the seed and the place
+    /// alone.
+    pub fn make(&self, place: u64) -> Made {
+        let mut rng = Prng::new(self.seed, place);
+        let step = place % ROW * DAMAGED;
+        if step % ROW < DAMAGED {
+            let turn = place / ROW * DAMAGED + step / ROW;
+            let way = self.pick_way(&mut rng, turn);
+            for _ in 0..TRIES {
+                if let Some(made) = self.damaged(&mut rng, way) {
+                    return made;
+                }
+            }
+        }
+        let draft = Draft::new(&mut rng);
+        Made {
+            file: draft.file(),
+            draft,
+            damage: None,
+        }
+    }
+
+    /// One time in five a favoured way by chance, else each way in its turn.
+    fn pick_way(&self, rng: &mut Prng, turn: u64) -> usize {
+        let count = self.ways.len();
+        if rng.one_in(5) {
+            return rng.between(self.first_favoured, count - 1);
+        }
+        let count = count as u64;
+        ((self.seed % count + turn % count) % count) as usize
+    }
+
+    fn damaged(&self, rng: &mut Prng, way: usize) -> Option<Made> {
+        let draft = Draft::new(rng);
+        let mut file = draft.file();
+        let expected = (self.ways[way].damage)(rng, &draft, &mut file)?;
+        Some(Made {
+            file,
+            draft,
+            damage: Some((way, expected)),
+        })
+    }
+}

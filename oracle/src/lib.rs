@@ -1,0 +1,15 @@
+//! A settler for rounds of Cajun Stud, written from document 01 and its
+//! readings as a plain rule sheet, with a generator of round files: it exists
+//! to be compared with another settler.
+
+pub mod answer;
+pub mod cards;
+pub mod generate;
+pub mod names;
+pub mod paytables;
+pub mod pool;
+pub mod reading;
+pub mod settle;
+pub mod stream;
+pub mod tally;
+pub mod text;

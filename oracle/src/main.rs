@@ -1,0 +1,210 @@
+//! The program `oracle`.
+
+use std::fs::File;
+use std::io::{self, BufReader, BufWriter, ErrorKind, Read, Write};
+use std::process::ExitCode;
+
+use oracle::{answer, generate, stream, tally, text};
+
+const HELP: &str = "\
+oracle: settles rounds of Cajun Stud, and makes rounds to be settled
+
+  oracle settle [FILE]       settle one round file
+  oracle stream              settle a stream of round files, one line each
+  oracle generate N SEED     write a stream of N round files
+  oracle tally N SEED        count what comes in those N files
+  oracle pack [FILE]         a readable text to its round file
+  oracle show [FILE]         a round file to its readable text
+  oracle show --stream K     the K-th file, from 0, of a stream
+
+Without FILE, and for stream, standard input is read.
+'oracle COMMAND --help' says more.
+Exit status: 0 done, 1 unreadable input, 2 bad usage.
+";
+
+const SETTLE_HELP: &str = "\
+oracle settle [FILE]
+
+Reads a round file and prints a line for each playing seat (its number, then
+base, Board, Pocket and Lo Ball in cents), then 'pool F P' in dollars, full and
+as paid; or 'refused N at R' alone.
+";
+
+const STREAM_HELP: &str = "\
+oracle stream
+
+Standard input is a run of round files, each preceded by its length as two
+bytes, low byte first. Prints one line a file:
+  paid A1 ... A28 pool F P part B
+  refused N at R part B HEX
+B is the byte at which the refused part begins, HEX the part (nothing follows B
+where it is empty).
+";
+
+const GENERATE_HELP: &str = "\
+oracle generate N SEED
+
+Writes a stream of N round files, valid and damaged, the same for the same SEED
+everywhere. The first M files do not depend on N.
+";
+
+const TALLY_HELP: &str = "\
+oracle tally N SEED
+
+Counts what comes in the N files of 'oracle generate N SEED', as the settler
+found it.
+";
+
+const PACK_HELP: &str = "\
+oracle pack [FILE]
+
+Reads a text, one record a line, and writes its 16-byte records:
+  table 5 100 base 2 lo 1 board 1 pocket 1
+  seat 1 ante 100 board 5 pocket 5 lo 0
+  deck 0: Ah Kh 8h 9h Th Jh Qh 2c 2d 2h 2s 3c 3d
+  choice 1 raise 3
+  choice 2 fold
+  choice 2 number 7
+  bytes 05 00 ff         (a record in hex, or the odd bytes at the end)
+'#' begins a comment.
+";
+
+const SHOW_HELP: &str = "\
+oracle show [FILE]
+oracle show --stream K
+
+Reads a round file, or with --stream the K-th file (from 0) of a stream on
+standard input, and prints the text that 'oracle pack' packs to the same bytes.
+With --stream the file's answer line stands above it as a comment.
+";
+
+enum Failure {
+    Usage(String),
+    Input(String),
+    /// Nobody reads what we write any more.
+    OutputClosed,
+}
+
+impl From<io::Error> for Failure {
+    fn from(error: io::Error) -> Failure {
+        match error.kind() {
+            ErrorKind::BrokenPipe => Failure::OutputClosed,
+            _ => Failure::Input(error.to_string()),
+        }
+    }
+}
+
+fn main() -> ExitCode {
+    let mut words = Vec::new();
+    for word in std::env::args_os().skip(1) {
+        words.push(word.to_string_lossy().into_owned());
+    }
+    let words: Vec<&str> = words.iter().map(String::as_str).collect();
+    match run(&words) {
+        Ok(()) | Err(Failure::OutputClosed) => ExitCode::SUCCESS,
+        Err(Failure::Usage(wrong)) => {
+            eprintln!("oracle: {wrong}; 'oracle --help' lists the commands");
+            ExitCode::from(2)
+        }
+        Err(Failure::Input(wrong)) => {
+            eprintln!("oracle: {wrong}");
+            ExitCode::from(1)
+        }
+    }
+}
+
+fn run(words: &[&str]) -> Result<(), Failure> {
+    match words {
+        ["--help" | "-h" | "help"] => print(HELP.as_bytes()),
+        [command, "--help" | "-h"] => print(help_of(command)?.as_bytes()),
+        ["settle", file @ ..] => print(answer::lines(&input(file)?).as_bytes()),
+        ["stream"] => answer_stream(),
+        ["generate", count, seed] => write_generated(number(count)?, number(seed)?),
+        ["tally", count, seed] => print(tally::table(number(count)?, number(seed)?).as_bytes()),
+        ["pack", file @ ..] => pack(file),
+        ["show", "--stream", place] => show_of_stream(number(place)?),
+        ["show", file @ ..] => print(text::show(&input(file)?).as_bytes()),
+        [command, ..] => {
+            help_of(command)?;
+            Err(Failure::Usage(format!("wrong arguments for {command}")))
+        }
+        [] => Err(Failure::Usage("no command".to_string())),
+    }
+}
+
+fn help_of(command: &str) -> Result<&'static str, Failure> {
+    match command {
+        "settle" => Ok(SETTLE_HELP),
+        "stream" => Ok(STREAM_HELP),
+        "generate" => Ok(GENERATE_HELP),
+        "tally" => Ok(TALLY_HELP),
+        "pack" => Ok(PACK_HELP),
+        "show" => Ok(SHOW_HELP),
+        _ => Err(Failure::Usage(format!("no command '{command}'"))),
+    }
+}
+
+fn number(word: &str) -> Result<u64, Failure> {
+    word.parse()
+        .map_err(|_| Failure::Usage(format!("'{word}' is no number of 0 to {}", u64::MAX)))
+}
+
+fn print(bytes: &[u8]) -> Result<(), Failure> {
+    let mut out = io::stdout().lock();
+    out.write_all(bytes)?;
+    Ok(out.flush()?)
+}
+
+/// The whole of the named file, or of standard input where none is named.
+fn input(file: &[&str]) -> Result<Vec<u8>, Failure> {
+    let mut bytes = Vec::new();
+    match file {
+        [] => io::stdin().lock().read_to_end(&mut bytes)?,
+        [option] if option.starts_with('-') => {
+            return Err(Failure::Usage(format!("no option '{option}' here")))
+        }
+        [path] => File::open(path)
+            .and_then(|mut opened| opened.read_to_end(&mut bytes))
+            .map_err(|error| Failure::Input(format!("{path}: {error}")))?,
+        _ => return Err(Failure::Usage("more than one FILE".to_string())),
+    };
+    Ok(bytes)
+}
+
+fn answer_stream() -> Result<(), Failure> {
+    let mut from = BufReader::with_capacity(1 << 16, io::stdin().lock());
+    let mut to = BufWriter::with_capacity(1 << 16, io::stdout().lock());
+    let answered = stream::answer_all(&mut from, &mut to);
+    to.flush()?;
+    Ok(answered?)
+}
+
+fn write_generated(count: u64, seed: u64) -> Result<(), Failure> {
+    let mut to = BufWriter::with_capacity(1 << 16, io::stdout().lock());
+    let generator = generate::Generator::new(seed);
+    for place in 0..count {
+        stream::put_file(&mut to, &generator.make(place).file)?;
+    }
+    Ok(to.flush()?)
+}
+
+fn pack(file: &[&str]) -> Result<(), Failure> {
+    let bytes = input(file)?;
+    let text = String::from_utf8(bytes)
+        .map_err(|_| Failure::Input("the text is not UTF-8".to_string()))?;
+    print(&text::pack(&text).map_err(Failure::Input)?)
+}
+
+fn show_of_stream(place: u64) -> Result<(), Failure> {
+    let mut from = BufReader::new(io::stdin().lock());
+    let mut file = Vec::new();
+    for before in 0..=place {
+        if !stream::next_file(&mut from, &mut file)? {
+            return Err(Failure::Input(format!("the stream has {before} files")));
+        }
+    }
+    let mut out = b"# ".to_vec();
+    answer::push_stream_line(&mut out, &file);
+    out.extend_from_slice(text::show(&file).as_bytes());
+    print(&out)
+}

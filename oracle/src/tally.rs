@@ -1,0 +1,384 @@
+//! Counts what comes in generated files, as the settler finds it.
+
+use std::fmt::Write;
+
+use crate::generate::draft::{FOLDS, POOLS};
+use crate::generate::stacks::STACKS;
+use crate::generate::{Generator, Made};
+use crate::names::FiveName;
+use crate::pool::maximum;
+use crate::reading::{read, Finished, Seat};
+use crate::settle::{names_of_seat, settle_round, Answer, SeatNames};
+
+const FIVE_NAMES: [&str; 11] = [
+    "royal flush",
+    "straight flush",
+    "four of a kind",
+    "full house",
+    "flush",
+    "straight",
+    "three of a kind",
+    "two pair",
+    "pair of jacks to aces",
+    "pair of sixes to tens",
+    "other",
+];
+const BOARD_NAMES: [&str; 7] = [
+    "royal",
+    "straight flush",
+    "three of a kind",
+    "straight",
+    "flush",
+    "pair",
+    "other",
+];
+const POCKET_NAMES: [&str; 5] = [
+    "pair of aces",
+    "ace with K, Q or J suited",
+    "ace with K, Q or J unsuited",
+    "other pair",
+    "nothing",
+];
+const LO_BALL_NAMES: [&str; 9] = [
+    "7 high",
+    "8 high",
+    "9 high",
+    "10 high",
+    "jack high",
+    "queen high",
+    "king high",
+    "ace high",
+    "nothing",
+];
+const POOL_LEVELS: [&str; 4] = [
+    "empty",
+    "within the maximum",
+    "exactly at the maximum",
+    "above the maximum",
+];
+const OTHERS: [&str; 5] = [
+    "pool above the maximum, shares less than the maximum",
+    "a pooled hand of a folded seat",
+    "an amount with half a dollar",
+    "card 0 in the last deck part",
+    "all fold on street one and a side wager wins",
+];
+const WAGERS: [&str; 10] = [
+    "ante the smallest",
+    "ante between",
+    "ante the largest",
+    "side wager 0",
+    "side wager 1",
+    "side wager between",
+    "side wager the largest",
+    "raises of 3 antes in all",
+    "raises of 4 to 8 antes in all",
+    "raises of 9 antes in all",
+];
+
+/// The counts of one kind of thing.
+pub struct Section {
+    pub title: &'static str,
+    pub rows: Vec<(String, u64)>,
+}
+
+impl Section {
+    fn new<T: ToString>(title: &'static str, labels: impl IntoIterator<Item = T>) -> Section {
+        let rows = labels.into_iter().map(|label| (label.to_string(), 0));
+        Section {
+            title,
+            rows: rows.collect(),
+        }
+    }
+
+    /// A row for each name with each pay table.
+    fn of_tables(title: &'static str, names: &[&str], tables: usize) -> Section {
+        let with_table = |name: &&str| -> Vec<String> {
+            (1..=tables).map(|t| format!("{name}, table {t}")).collect()
+        };
+        Section::new(title, names.iter().flat_map(with_table))
+    }
+
+    fn count(&mut self, row: usize) {
+        if let Some((_, count)) = self.rows.get_mut(row) {
+            *count += 1;
+        }
+    }
+}
+
+pub struct Tally {
+    pub files: u64,
+    pub bytes: u64,
+    /// For each way: how often accepted, then how often refused by number.
+    pub way_answers: Vec<[u64; 17]>,
+    pub answers: Section,
+    pub ways: Section,
+    pub stacks: Section,
+    pub aims: Section,
+    pub folds: Section,
+    pub pools: Section,
+    pub pooled: Section,
+    pub seats: Section,
+    pub patterns: Section,
+    pub smallest: Section,
+    pub largest: Section,
+    pub wagers: Section,
+    pub others: Section,
+    pub base: Section,
+    pub board: Section,
+    pub pocket: Section,
+    pub lo_ball: Section,
+}
+
+/// The tally of the first files of a seed, as a readable table.
+pub fn table(count: u64, seed: u64) -> String {
+    Tally::of(count, seed).printed()
+}
+
+impl Tally {
+    pub fn of(count: u64, seed: u64) -> Tally {
+        let generator = Generator::new(seed);
+        let mut tally = Tally::empty(&generator);
+        for place in 0..count {
+            tally.file(&generator.make(place));
+        }
+        tally
+    }
+
+    fn empty(generator: &Generator) -> Tally {
+        let refused = (2..=16).map(|number| format!("refused {number}"));
+        let answers = std::iter::once("accepted".to_string()).chain(refused);
+        let patterns = (1..128).map(|mask: u32| pattern_label(mask));
+        let way_names = generator.ways.iter().map(|way| &way.name);
+        Tally {
+            files: 0,
+            bytes: 0,
+            way_answers: vec![[0; 17]; generator.ways.len()],
+            answers: Section::new("answers", answers),
+            ways: Section::new("ways of damage", way_names),
+            stacks: Section::new("decks of accepted rounds", STACKS.iter().map(|s| s.name)),
+            aims: Section::new("aims at the pool of accepted rounds", POOLS),
+            folds: Section::new("folds", FOLDS),
+            pools: Section::new("pools", POOL_LEVELS),
+            pooled: Section::new("pooled seats", 0..3),
+            seats: Section::new("playing seats", 1..8),
+            patterns: Section::new("patterns of playing seats", patterns),
+            smallest: Section::new("smallest antes", 5..16),
+            largest: Section::new("largest antes", ["25", "26 to 99", "100"]),
+            wagers: Section::new("wagers", WAGERS),
+            others: Section::new("others", OTHERS),
+            base: Section::of_tables("five-card names, seat not folded", &FIVE_NAMES, 5),
+            board: Section::of_tables("board names, wager placed", &BOARD_NAMES, 4),
+            pocket: Section::of_tables("pocket names, wager placed", &POCKET_NAMES, 3),
+            lo_ball: Section::of_tables("Lo Ball names, wager placed", &LO_BALL_NAMES, 2),
+        }
+    }
+
+    pub fn sections(&self) -> [&Section; 17] {
+        [
+            &self.answers,
+            &self.stacks,
+            &self.aims,
+            &self.folds,
+            &self.pools,
+            &self.pooled,
+            &self.seats,
+            &self.smallest,
+            &self.largest,
+            &self.wagers,
+            &self.others,
+            &self.base,
+            &self.board,
+            &self.pocket,
+            &self.lo_ball,
+            &self.patterns,
+            &self.ways,
+        ]
+    }
+
+    fn file(&mut self, made: &Made) {
+        self.files += 1;
+        self.bytes += made.file.len() as u64;
+        let found = read(&made.file);
+        let number = found.as_ref().map_or_else(|refusal| refusal.number, |_| 0);
+        self.answers.count(usize::from(number.max(1)) - 1);
+        if let Some((way, _)) = made.damage {
+            self.ways.count(way);
+            self.way_answers[way][usize::from(number)] += 1;
+        } else {
+            self.stacks.count(made.draft.stack);
+            self.aims.count(made.draft.pool);
+        }
+        if let Ok(round) = found {
+            self.round(&round);
+        }
+    }
+
+    fn round(&mut self, round: &Finished) {
+        let Answer::Paid {
+            amounts,
+            full,
+            paid,
+        } = settle_round(round)
+        else {
+            return;
+        };
+        let most = maximum(round.table.smallest);
+        self.pools.count(pool_level(full, most));
+        self.seats.count(round.seats.len() - 1);
+        self.patterns.count(pattern(&round.seats) as usize - 1);
+        self.smallest.count(usize::from(round.table.smallest) - 5);
+        self.largest
+            .count(place_between(25, round.table.largest.into(), 100));
+        self.folds.count(fold_pattern(&round.seats));
+        let folded_pooled = self.round_seats(round);
+        let all_at_once = round
+            .seats
+            .iter()
+            .all(|seat| seat.folded && seat.chosen == 1);
+        let marks = [
+            full > most && paid < most,
+            folded_pooled,
+            amounts.iter().any(|amount| amount % 100 == 50),
+            round.deck[39..].contains(&0),
+            all_at_once && amounts.iter().any(|&amount| amount > 0),
+        ];
+        for (row, _) in marks.iter().enumerate().filter(|(_, mark)| **mark) {
+            self.others.count(row);
+        }
+    }
+
+    /// Counts by seat; tells whether a folded seat holds a pooled hand.
+    fn round_seats(&mut self, round: &Finished) -> bool {
+        let mut pooled = 0;
+        let mut folded_pooled = false;
+        for (order, seat) in round.seats.iter().enumerate() {
+            let names = names_of_seat(round, order);
+            let is_pooled = names.five as usize <= FiveName::StraightFlush as usize;
+            pooled += usize::from(is_pooled && !seat.folded);
+            folded_pooled |= is_pooled && seat.folded;
+            self.names(round, seat, &names);
+            self.seat_wagers(round, seat);
+        }
+        self.pooled.count(pooled);
+        folded_pooled
+    }
+
+    fn names(&mut self, round: &Finished, seat: &Seat, names: &SeatNames) {
+        let row = |name: usize, tables: usize, table: u8| name * tables + usize::from(table) - 1;
+        let table = &round.table;
+        if !seat.folded {
+            self.base.count(row(names.five as usize, 5, table.base));
+        }
+        if seat.board > 0 {
+            self.board.count(row(names.board as usize, 4, table.board));
+        }
+        if seat.pocket > 0 {
+            self.pocket
+                .count(row(names.pocket as usize, 3, table.pocket));
+        }
+        if seat.lo_ball > 0 {
+            self.lo_ball
+                .count(row(names.lo_ball as usize, 2, table.lo_ball));
+        }
+    }
+
+    fn seat_wagers(&mut self, round: &Finished, seat: &Seat) {
+        let smallest = u16::from(round.table.smallest);
+        let largest = u16::from(round.table.largest);
+        self.wagers
+            .count(place_between(smallest, seat.ante, largest));
+        for side in [seat.board, seat.pocket, seat.lo_ball] {
+            self.wagers.count(match side {
+                0 => 3,
+                1 => 4,
+                _ if side == largest => 6,
+                _ => 5,
+            });
+        }
+        if !seat.folded {
+            self.wagers.count(7 + place_between(3, seat.raises, 9));
+        }
+    }
+
+    pub fn printed(&self) -> String {
+        let mut text = format!("files {}, bytes {}", self.files, self.bytes);
+        let average = self.bytes as f64 / self.files.max(1) as f64;
+        let _ = writeln!(text, ", bytes a file {average:.1}");
+        for section in &self.sections()[..16] {
+            print_section(&mut text, section);
+        }
+        let _ = writeln!(text, "\n{}", self.ways.title);
+        for ((name, count), answers) in self.ways.rows.iter().zip(&self.way_answers) {
+            let _ = writeln!(text, "{count:>9}  {name:<46} {}", answers_of_way(answers));
+        }
+        text
+    }
+}
+
+fn print_section(text: &mut String, section: &Section) {
+    let _ = writeln!(text, "\n{}", section.title);
+    for (label, count) in &section.rows {
+        let _ = writeln!(text, "{count:>9}  {label}");
+    }
+}
+
+fn answers_of_way(answers: &[u64; 17]) -> String {
+    let mut parts = Vec::new();
+    for (number, count) in answers.iter().enumerate().filter(|(_, count)| **count > 0) {
+        parts.push(match number {
+            0 => format!("accepted: {count}"),
+            _ => format!("refused {number}: {count}"),
+        });
+    }
+    parts.join(", ")
+}
+
+fn pool_level(full: u64, most: u64) -> usize {
+    match full {
+        0 => 0,
+        _ if full < most => 1,
+        _ if full == most => 2,
+        _ => 3,
+    }
+}
+
+/// 0 at the lower end, 1 between, 2 at the upper end.
+fn place_between(least: u16, number: u16, most: u16) -> usize {
+    match number {
+        _ if number == least => 0,
+        _ if number == most => 2,
+        _ => 1,
+    }
+}
+
+/// The playing seats as a number: seat 1 counts 1, seat 2 counts 2, seat 3
+/// counts 4 and so on.
+fn pattern(seats: &[Seat]) -> u32 {
+    seats.iter().map(|seat| 1 << (seat.number - 1)).sum()
+}
+
+fn pattern_label(mask: u32) -> String {
+    let playing = (0..7).filter(|seat| mask >> seat & 1 == 1);
+    let numbers: Vec<String> = playing.map(|seat| (seat + 1).to_string()).collect();
+    format!("seats {}", numbers.join(" "))
+}
+
+/// The place in `FOLDS` of what the seats did.
+fn fold_pattern(seats: &[Seat]) -> usize {
+    let folded = || seats.iter().filter(|seat| seat.folded);
+    let Some(first) = folded().next() else {
+        return 0;
+    };
+    let one_street = folded().all(|seat| seat.chosen == first.chosen);
+    let everyone = seats.iter().all(|seat| seat.folded);
+    let sides = |seat: &Seat| seat.board > 0 && seat.pocket > 0 && seat.lo_ball > 0;
+    match (everyone, one_street, first.chosen) {
+        (true, true, 1) if seats.iter().all(sides) => 6,
+        (true, true, 1) => 5,
+        (true, true, street) => 5 + usize::from(street),
+        (true, false, _) => 9,
+        (false, true, street) => usize::from(street),
+        (false, false, _) => 4,
+    }
+}

@@ -1,0 +1,140 @@
+//! The program: its commands, answers and exit statuses.
+
+use std::io::Write;
+use std::process::{Command, Output, Stdio};
+
+use oracle::text::pack;
+
+fn oracle(words: &[&str], input: &[u8]) -> Output {
+    let mut child = Command::new(env!("CARGO_BIN_EXE_oracle"))
+        .args(words)
+        .stdin(Stdio::piped())
+        .stdout(Stdio::piped())
+        .stderr(Stdio::piped())
+        .spawn()
+        .unwrap();
+    let mut stdin = child.stdin.take().unwrap();
+    let input = input.to_vec();
+    let writer = std::thread::spawn(move || {
+        let _ = stdin.write_all(&input);
+    });
+    let output = child.wait_with_output().unwrap();
+    writer.join().unwrap();
+    output
+}
+
+fn printed(words: &[&str], input: &[u8]) -> String {
+    let output = oracle(words, input);
+    assert_eq!(output.status.code(), Some(0), "{words:?}");
+    String::from_utf8(output.stdout).unwrap()
+}
+
+fn status(words: &[&str], input: &[u8]) -> Option<i32> {
+    let output = oracle(words, input);
+    assert!(!output.stderr.is_empty(), "{words:?}");
+    output.status.code()
+}
+
+fn round() -> Vec<u8> {
+    pack(include_str!("round01.txt")).unwrap()
+}
+
+fn stream_of(files: &[&[u8]]) -> Vec<u8> {
+    let mut stream = Vec::new();
+    for file in files {
+        stream.extend_from_slice(&(file.len() as u16).to_le_bytes());
+        stream.extend_from_slice(file);
+    }
+    stream
+}
+
+#[test]
+fn settles_one_file() {
+    let lines = "1 2183300 20500 10500 0\n2 516600 0 0 0\npool 600000 24999\n";
+    assert_eq!(printed(&["settle"], &round()), lines);
+    assert_eq!(printed(&["settle"], &[]), "refused 16 at 0\n");
+    assert_eq!(printed(&["settle"], &[1; 33]), "refused 2 at 2\n");
+}
+
+#[test]
+fn answers_a_stream() {
+    let mut bad = round();
+    bad[1] = 4;
+    let stream = stream_of(&[&round(), &[], &bad, &[0xab, 0x0c], &round()[..32]]);
+    let zeros = " 0".repeat(20);
+    let paid = format!("paid 2183300 20500 10500 0 516600 0 0 0{zeros} pool 600000 24999 part 208");
+    let lines = [
+        paid.as_str(),
+        "refused 16 at 0 part 0",
+        "refused 5 at 0 part 0 01046402010101000000000000000000",
+        "refused 2 at 0 part 0 ab0c",
+        "refused 16 at 2 part 32",
+    ];
+    assert_eq!(printed(&["stream"], &stream), lines.join("\n") + "\n");
+    assert_eq!(printed(&["stream"], &[]), "");
+}
+
+#[test]
+fn a_stream_that_ends_inside_a_file() {
+    for rest in [&[3][..], &[3, 0][..], &[3, 0, 1, 2][..]] {
+        let mut stream = stream_of(&[&[]]);
+        stream.extend_from_slice(rest);
+        let output = oracle(&["stream"], &stream);
+        assert_eq!(output.status.code(), Some(1));
+        assert_eq!(output.stdout, b"refused 16 at 0 part 0\n");
+        assert!(!output.stderr.is_empty());
+    }
+}
+
+#[test]
+fn generates_the_same_head_for_any_count() {
+    let long = oracle(&["generate", "50", "9"], &[]).stdout;
+    let short = oracle(&["generate", "20", "9"], &[]).stdout;
+    assert!(!short.is_empty() && short.len() < long.len());
+    assert_eq!(short, long[..short.len()]);
+    assert_eq!(printed(&["stream"], &long).lines().count(), 50);
+    let shown = printed(&["show", "--stream", "19"], &long);
+    assert!(shown.starts_with("# paid") || shown.starts_with("# refused"));
+    let packed = oracle(&["pack"], shown.as_bytes()).stdout;
+    assert!(short.ends_with(&packed));
+}
+
+#[test]
+fn packs_and_shows() {
+    let packed = oracle(&["pack"], include_bytes!("round01.txt")).stdout;
+    assert_eq!(packed, round());
+    let shown = printed(&["show"], &packed);
+    assert_eq!(oracle(&["pack"], shown.as_bytes()).stdout, packed);
+}
+
+#[test]
+fn helps() {
+    let help = printed(&["--help"], &[]);
+    for command in ["settle", "stream", "generate", "tally", "pack", "show"] {
+        assert!(help.contains(&format!("oracle {command}")));
+        assert!(printed(&[command, "--help"], &[]).contains(command));
+    }
+    assert!(printed(&["tally", "20", "1"], &[]).starts_with("files 20"));
+}
+
+#[test]
+fn exit_statuses() {
+    let usages: [&[&str]; 9] = [
+        &[],
+        &["deal"],
+        &["deal", "--help"],
+        &["generate", "5"],
+        &["generate", "x", "1"],
+        &["stream", "file"],
+        &["settle", "--fast"],
+        &["show", "--stream", "-1"],
+        &["pack", "one", "two"],
+    ];
+    for words in usages {
+        assert_eq!(status(words, &[]), Some(2), "{words:?}");
+    }
+    assert_eq!(status(&["settle", "/nowhere/at/all"], &[]), Some(1));
+    assert_eq!(status(&["pack"], b"chair 1"), Some(1));
+    assert_eq!(status(&["pack"], &[255]), Some(1));
+    assert_eq!(status(&["show", "--stream", "1"], &[0, 0]), Some(1));
+}

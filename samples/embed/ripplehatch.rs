@@ -1,0 +1,100 @@
+//! The library's functions for Rust: the four that ripplehatch.h declares, on slices and enums.
+//!
+//! A slice goes as its pointer and its length. The slices are there, and no two of what is lent overlap: that is all that the library asks of
+//! a caller, so nothing here can be used wrongly.
+#![allow(dead_code)]
+
+/// How long a results list is: seats 1 to 7, four amounts each, in cents, in the order base, Board, Pocket, Lo Ball.
+pub const RESULTS: usize = 28;
+
+extern "C" {
+    fn ripplehatch_settle_file(
+        file: *const u8,
+        bytes: usize,
+        results: *mut u64,
+        room: usize,
+        full: &mut u64,
+        paid: &mut u64,
+        place: &mut usize,
+    ) -> u8;
+    fn ripplehatch_refused_part(file: *const u8, bytes: usize, length: &mut usize) -> usize;
+    fn ripplehatch_name_five(cards: *const u8, count: usize, name: &mut usize) -> u8;
+    fn ripplehatch_share(
+        wins: *const u64,
+        count: usize,
+        maximum: u64,
+        shares: *mut u64,
+        room: usize,
+    ) -> u8;
+}
+
+#[derive(Clone, Copy, Debug, PartialEq, Eq)]
+#[allow(clippy::large_enum_variant)]
+pub enum Answer {
+    /// What each seat is owed, and the pool in dollars, full and as paid.
+    Paid {
+        amounts: [u64; RESULTS],
+        full: u64,
+        paid: u64,
+    },
+    /// The refusal's number, and the place of the record that it is for.
+    Refused { number: u8, place: usize },
+}
+
+/// Settles a round file.
+pub fn settle(file: &[u8]) -> Answer {
+    let mut amounts = [0; RESULTS];
+    let (mut full, mut paid, mut place) = (0, 0, 0);
+    let number = unsafe {
+        ripplehatch_settle_file(
+            file.as_ptr(),
+            file.len(),
+            amounts.as_mut_ptr(),
+            amounts.len(),
+            &mut full,
+            &mut paid,
+            &mut place,
+        )
+    };
+    match number {
+        0 => Answer::Paid {
+            amounts,
+            full,
+            paid,
+        },
+        _ => Answer::Refused { number, place },
+    }
+}
+
+/// The refused record as a part of the file: for 2 the odd bytes at the end, for 16, or no refusal, the empty part at the end.
+pub fn refused_part(file: &[u8]) -> &[u8] {
+    let mut length = 0;
+    let begins = unsafe { ripplehatch_refused_part(file.as_ptr(), file.len(), &mut length) };
+    &file[begins..begins + length]
+}
+
+/// The place of the five cards' name in the list of names, 0 for a royal flush to 10 for other; or the refusal, 18 or 11.
+pub fn name_five(cards: &[u8]) -> Result<usize, u8> {
+    let mut name = 0;
+    match unsafe { ripplehatch_name_five(cards.as_ptr(), cards.len(), &mut name) } {
+        0 => Ok(name),
+        number => Err(number),
+    }
+}
+
+/// Shares a maximum among up to seven wins, in dollars; or the refusal, 19 or 20, which leaves the shares as they were.
+pub fn share(wins: &[u64], maximum: u64, shares: &mut [u64]) -> Result<(), u8> {
+    let number = unsafe {
+        ripplehatch_share(
+            wins.as_ptr(),
+            wins.len(),
+            maximum,
+            shares.as_mut_ptr(),
+            shares.len(),
+        )
+    };
+    match number {
+        0 => Ok(()),
+        _ => Err(number),
+    }
+}
