@@ -1,0 +1,97 @@
+//! Compares the cost of the proved settler with that of the one in oracle/, in one run, call beside call.
+//!
+//! usage: compare STREAM            the table, as lines of Markdown
+//!        compare STREAM proved     settles the stream with the proved settler alone, for a profiler
+//!
+//! STREAM is a file that `oracle generate` wrote. Both settlers are asked the same, and have to answer alike, before anything is timed.
+
+#[path = "../../../samples/embed/ripplehatch.rs"]
+mod proved;
+mod work;
+
+use oracle::stream::next_file;
+use std::fs::File;
+use std::io::BufReader;
+use std::process::ExitCode;
+use work::Work;
+
+/// How often each kind of work is timed; the fastest pass of each settler counts.
+const PASSES: usize = 15;
+
+extern "C" {
+    /// C's CPU time of the process, in millionths of a second on Linux.
+    fn clock() -> std::ffi::c_long;
+}
+
+fn seconds(work: &dyn Fn()) -> f64 {
+    let start = unsafe { clock() };
+    work();
+    (unsafe { clock() } - start) as f64 / 1e6
+}
+
+fn least(a: f64, b: f64) -> f64 {
+    if a < b {
+        a
+    } else {
+        b
+    }
+}
+
+fn print_row(work: &Work) {
+    let (mut proved, mut oracle) = (f64::MAX, f64::MAX);
+    for _ in 0..PASSES {
+        proved = least(proved, seconds(&work.proved));
+        oracle = least(oracle, seconds(&work.oracle));
+    }
+    let each = |total: f64| total * 1e9 / work.calls as f64;
+    println!(
+        "| {} | {} | {:.0} ns | {:.0} ns | {:.2} |",
+        work.name,
+        work.calls,
+        each(proved),
+        each(oracle),
+        proved / oracle
+    );
+}
+
+fn print_table(files: Vec<Vec<u8>>) -> Result<(), String> {
+    let works = [work::settling(files)?, work::naming()?, work::sharing()?];
+    println!("| Work | inputs | proved, each | oracle, each | ratio |");
+    println!("|---|---|---|---|---|");
+    for work in &works {
+        print_row(work);
+    }
+    Ok(())
+}
+
+fn files_of(path: &str) -> Result<Vec<Vec<u8>>, String> {
+    let said = |error: std::io::Error| format!("{path}: {error}");
+    let mut stream = BufReader::new(File::open(path).map_err(said)?);
+    let (mut files, mut file) = (Vec::new(), Vec::new());
+    while next_file(&mut stream, &mut file).map_err(said)? {
+        files.push(file.clone());
+    }
+    Ok(files)
+}
+
+fn run() -> Result<(), String> {
+    let words: Vec<String> = std::env::args().skip(1).collect();
+    match words.iter().map(String::as_str).collect::<Vec<_>>()[..] {
+        [stream] => print_table(files_of(stream)?),
+        [stream, "proved"] => {
+            work::prove_all(&files_of(stream)?);
+            Ok(())
+        }
+        _ => Err("usage: compare STREAM [proved]".to_string()),
+    }
+}
+
+fn main() -> ExitCode {
+    match run() {
+        Ok(()) => ExitCode::SUCCESS,
+        Err(said) => {
+            eprintln!("compare: {said}");
+            ExitCode::from(1)
+        }
+    }
+}
