@@ -1,8 +1,8 @@
 // Settles with lists of 0, 27, 28 and 29 numbers: when 1 is answered, and that a refusal changes no number of the list.
 //
-// Standard input is the round file of document 01. It is settled whole, without its last byte, without its last record, without its first record and
-// empty; then the rounds that it leads to are settled as held rounds, and one that no records lead to. Printed are the answer and how many
-// numbers of the lent list were changed.
+// Standard input is the round file of document 01. It is settled whole (`file`), without its last byte (`odd file`) or its first record
+// (`late file`), and empty; then the round that it leads to is settled as a held round, as are the fresh one and one with a fifth deck part, which
+// no records lead to (`false round`). Printed are the answer and how many numbers of the lent list were changed.
 //
 // stdout beside src/ is worked out from document 01's order: a file 1, 2, then record by record; a held round 17, 1, 16. What the program prints is
 // tested and not proved.
@@ -117,31 +117,35 @@ fn ask_files(file: [u8; WHOLE], n: usize)
     requires { ⌜ n ≤ 29 ⌝ }
 {
     ask_file(b"file", &file, n);
-    ask_file(b"file without its last byte", &file[0..207], n);
-    ask_file(b"file without its last record", &file[0..192], n);
-    ask_file(b"file without its first record", &file[16..208], n);
+    ask_file(b"odd file", &file[0..207], n);
+    ask_file(b"late file", &file[16..208], n);
     ask_file(b"empty file", &file[0..0], n);
 }
 
-fn with_a_fifth_part(round: Round) -> Round {
-    let mut other = round;
-    other.deck.parts = 5;
-    other
+fn with_a_fifth_part(mut round: Round) -> Round {
+    round.deck.parts = 5;
+    round
+}
+
+// The round that a file leads to.
+fn ask_read(what: &[u8], file: &[u8], n: usize)
+    requires { ⌜ n ≤ 29 ⌝ }
+{
+    ask_round(what, read_file(file).round, n);
+}
+
+fn ask_changed(what: &[u8], file: &[u8], n: usize)
+    requires { ⌜ n ≤ 29 ⌝ }
+{
+    ask_round(what, with_a_fifth_part(read_file(file).round), n);
 }
 
 fn ask_rounds(file: [u8; WHOLE], n: usize)
     requires { ⌜ n ≤ 29 ⌝ }
 {
-    let finished = read_file(&file).round;
-    let cut = read_file(&file[0..192]).round;
-    ask_round(b"round", finished, n);
-    ask_round(b"round without its last record", cut, n);
-    ask_round(b"fresh round", Round::fresh(), n);
-    ask_round(
-        b"round with a fifth deck part",
-        with_a_fifth_part(finished),
-        n,
-    );
+    ask_read(b"round", &file, n);
+    ask_read(b"fresh round", &file[0..0], n);
+    ask_changed(b"false round", &file, n);
 }
 
 fn main() {
