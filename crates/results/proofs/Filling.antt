@@ -9,8 +9,13 @@ use Rattle.counting.proofs.Fills.{Filled, rows-none, row-more, rows-all}
 use Rattle.round.specs.declared.Round.{Round}
 use Rattle.amounts.specs.Sides.{boardAmount, pocketAmount, loAmount}
 use Rattle.results.specs.declared.Amounts.{Amounts}
-use Rattle.results.specs.Results.{baseAmount, seatWagers, seatAmounts, resultsLong, results, amountsOf, withSeat}
+use Rattle.results.specs.Results.{baseAmount, seatWagers, seatAmounts, resultsLong, results, amountsOf}
 use Rattle.results.proofs.Places.{seat-long}
+
+-- a list with the amounts of the seat at place k
+abbrev withSeat : List ℕ → ℕ → Amounts → List ℕ
+withSeat l k a =
+    set (set (set (set l (seatWagers * k) (a .base)) (seatWagers * k + 1) (a .board)) (seatWagers * k + 2) (a .pocket)) (seatWagers * k + 3) (a .lo)
 
 module _ (r : Round) where
   -- the amounts of the first k seats stand there

@@ -2,7 +2,7 @@
 -- Assumes nothing.
 use Prim.Native.Nat.{ℕ, _+_, _*_}
 use mathlib.Core.List.{List, [], _∷_}
-use lib.ListN.{getD, set}
+use lib.ListN.{getD}
 use Rattle.counting.specs.Count.{gather, each}
 use Rattle.seating.specs.declared.Table.{Table}
 use Rattle.round.specs.declared.Round.{Round}
@@ -49,11 +49,6 @@ judgedOf r = record { wins = wins r; kept = each 7 (kept r); pool = pool r; boar
 
 abbrev pub amountsOf : Round → ℕ → Amounts
 amountsOf r k = record { base = baseAmount r k; board = boardAmount r k; pocket = pocketAmount r k; lo = loAmount r k }
-
--- a list with the amounts of the seat at place k
-abbrev pub withSeat : List ℕ → ℕ → Amounts → List ℕ
-withSeat l k a =
-    set (set (set (set l (seatWagers * k) (a .base)) (seatWagers * k + 1) (a .board)) (seatWagers * k + 2) (a .pocket)) (seatWagers * k + 3) (a .lo)
 
 -- the pool, full and as paid, and the results list
 abbrev pub resultsOf : Round → Results

@@ -95,6 +95,9 @@ fn next_length() -> usize
 {
     let mut length = [0u8; 2];
     let n = io::read_full(STDIN_FILENO, &mut length);
+    if n == 1 {
+        io::write_all(STDOUT_FILENO, b"the stream ends inside a length\n");
+    }
     if n < 2 {
         return TOO_LONG;
     }
