@@ -1,8 +1,8 @@
 // Settles with lists of 0, 27, 28 and 29 numbers: when 1 is answered, and that a refusal changes no number of the list.
 //
-// Standard input is the round file of document 01. It is settled whole (`file`), without its last byte (`odd file`) or its first record
-// (`late file`), and empty; then the round that it leads to is settled as a held round, as are the fresh one and one with a fifth deck part, which
-// no records lead to (`false round`). Printed are the answer and how many numbers of the lent list were changed.
+// Standard input is the round file of document 01. It is settled whole (`file`), without its last byte (`odd file`) and empty; then
+// the round that it leads to is settled as a held round, as are the fresh one and one with a fifth deck part, which no records lead to
+// (`false round`). Printed are the answer and how many numbers of the lent list were changed.
 //
 // stdout beside src/ is worked out from document 01's order: a file 1, 2, then record by record; a held round 17, 1, 16. What the program prints is
 // tested and not proved.
@@ -118,7 +118,6 @@ fn ask_files(file: [u8; WHOLE], n: usize)
 {
     ask_file(b"file", &file, n);
     ask_file(b"odd file", &file[0..207], n);
-    ask_file(b"late file", &file[16..208], n);
     ask_file(b"empty file", &file[0..0], n);
 }
 
