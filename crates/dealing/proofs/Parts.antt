@@ -13,7 +13,7 @@ use Rattle.counting.specs.Choose.{if_then_else_}
 use Rattle.counting.specs.Count.{everyOf, someBelow}
 use Rattle.counting.proofs.Tests.{and-true, unchosen, passed}
 use Rattle.counting.proofs.Lists.{everyOf-drop}
-use Rattle.cards.specs.Deck.{repeats, faulty, faultyFrom, wholeDeck}
+use Rattle.cards.specs.Deck.{repeats, faulty, wholeDeck}
 use Rattle.cards.proofs.Decks.{faulty-split}
 use Rattle.records.specs.Bytes.{byte, zeroFrom}
 use Rattle.dealing.specs.declared.Deck.{Deck}
@@ -127,14 +127,15 @@ module _ (d : Deck) (b : List ℕ) (long : length (d .cards) ≡ 52) (sixteen : 
       ap (take (13 * d .parts)) cards-next
       ∙ take-at (dealt d) (thirteenOf b) (13 * d .parts) (length-take-le (13 * d .parts) (d .cards) (omega arith))
 
-  new-sound : partRefusal d b ≡ 0 → faultyFrom (13 * d .parts) (dealt (nextDeck d b)) ≡ false
+  -- where the parts before have no fault, looking at the new cards is looking at all
+  pub part-faults : deckFits d ≡ true → partFaulty d b ≡ faulty (dealt (withPart d b))
   unfolding partFaulty
-  new-sound accepted = sym (ap (λ (x : Deck). faultyFrom (13 * d .parts) (dealt x)) (part-more d b room)) ∙ part-accepted d b accepted .cards
+  part-faults fits =
+      rw (part-more d b room) (sym (faulty-split (13 * d .parts) (dealt (nextDeck d b)) ∙ simp (ap faulty before ∙ deck-sound d fits)))
 
-  -- no fault in the parts before, and none in the new one
   next-sound : deckFits d ≡ true → partRefusal d b ≡ 0 → faulty (dealt (nextDeck d b)) ≡ false
   next-sound fits accepted =
-      faulty-split (13 * d .parts) (dealt (nextDeck d b)) ∙ simp (ap faulty before ∙ deck-sound d fits, new-sound accepted)
+      ap (λ (x : Deck). faulty (dealt x)) (sym (part-more d b room)) ∙ sym (part-faults fits) ∙ part-accepted d b accepted .cards
 
   pub part-kept : deckFits d ≡ true → partRefusal d b ≡ 0 → deckFits (withPart d b) ≡ true
   part-kept fits accepted =

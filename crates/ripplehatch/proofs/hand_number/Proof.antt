@@ -1,5 +1,4 @@
 use borrow.Author.Needs.{needs}
-use borrow.Author.Needs.{needs}
 use Rattle.ripplehatch.proofs.hand_number.Statement.{statement}
 use Rattle.ripplehatch.proofs.hand_number.Tie as tie
 

@@ -1,5 +1,4 @@
 use borrow.Author.Needs.{needs}
-use borrow.Author.Needs.{needs}
 use Rattle.ripplehatch.proofs.number_of.Statement.{statement}
 use Rattle.ripplehatch.proofs.number_of.Tie as tie
 

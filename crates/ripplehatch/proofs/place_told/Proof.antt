@@ -1,5 +1,4 @@
 use borrow.Author.Needs.{needs}
-use borrow.Author.Needs.{needs}
 use Rattle.ripplehatch.proofs.place_told.Statement.{statement}
 use Rattle.ripplehatch.proofs.place_told.Tie as tie
 

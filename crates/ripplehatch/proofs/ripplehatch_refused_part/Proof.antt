@@ -4,7 +4,6 @@ use Rattle.reading.proofs.Readings.{read-place}
 use Prim.Native.Nat.{_≤_, _*_}
 use lib.ListN.{length}
 use borrow.Author.Needs.{needs}
-use borrow.Author.Needs.{needs}
 use Rattle.ripplehatch.proofs.ripplehatch_refused_part.Statement.{statement}
 use Rattle.ripplehatch.proofs.ripplehatch_refused_part.Tie as tie
 
