@@ -1,8 +1,8 @@
 /* Ripplehatch: settles a round of Cajun Stud. Link with libripplehatch.a (rt staticlib ripplehatch), on x86-64.
  *
- * Every function answers every input: there is nothing that a caller has to check first. Two things are C's own to keep: a pointer and the number after
- * it are a list that is really there (of 0 numbers any pointer will do that is not null), and nothing that is lent to be written overlaps anything else
- * that is lent to the same call. The functions keep nothing between calls, use no heap and print nothing.
+ * Every function answers every input: there is nothing that a caller has to check first. Three things are C's own to keep. No pointer may be null, neither one to
+ * a list nor one to a number; of a list of 0 numbers any other pointer will do. A pointer and the number after it are a list that is really there. Nothing that is
+ * lent to be written overlaps anything else that is lent to the same call. The functions keep nothing between calls, use no heap and print nothing.
  *
  * What each answers is proved: crates/ripplehatch/src/lib.rt has the contracts, docs/READING.md leads to what they mean.
  */
@@ -18,6 +18,32 @@ extern "C" {
 
 /* How long a results list is: seats 1 to 7, four amounts each, in cents, in the order base, Board, Pocket, Lo Ball. */
 #define RIPPLEHATCH_RESULTS 28
+
+/* What a function answers: 0, or the refusal's number. Where several apply, a file is checked for 1, then 2, then record by record, and within a record the lowest
+ * number applies; of cards 18 comes before 11, of a pool 19 before 20. */
+enum {
+    RIPPLEHATCH_SETTLED = 0,       /* no refusal */
+    RIPPLEHATCH_LIST_LENGTH = 1,   /* the results list isn't 28 long */
+    RIPPLEHATCH_ODD_BYTES = 2,     /* the file's length isn't a multiple of 16 */
+    RIPPLEHATCH_KIND = 3,          /* a record of this kind can't come here */
+    RIPPLEHATCH_NOT_ZERO = 4,      /* a byte that must be zero isn't */
+    RIPPLEHATCH_ANTE_LIMIT = 5,    /* an ante limit is out of range */
+    RIPPLEHATCH_PAY_TABLE = 6,     /* there is no such pay table */
+    RIPPLEHATCH_SEAT = 7,          /* the seat is outside 1 to 7, or, in a seat record, not above the one before */
+    RIPPLEHATCH_ANTE = 8,          /* the ante is outside the limits */
+    RIPPLEHATCH_SIDE_WAGER = 9,    /* a side wager is above the largest ante */
+    RIPPLEHATCH_DECK_PART = 10,    /* the deck part isn't the next one */
+    RIPPLEHATCH_CARD = 11,         /* a card is above 51, or a repeat */
+    RIPPLEHATCH_CHOICE = 12,       /* the choice is above 3 */
+    RIPPLEHATCH_ABSENT = 13,       /* the seat isn't in the round */
+    RIPPLEHATCH_FOLDED = 14,       /* the seat has folded */
+    RIPPLEHATCH_CHOSEN = 15,       /* the seat has already chosen on this street */
+    RIPPLEHATCH_UNFINISHED = 16,   /* the round isn't finished */
+    RIPPLEHATCH_NOT_HELD = 17,     /* a held round that no records lead to; no file is answered so */
+    RIPPLEHATCH_HAND = 18,         /* the hand isn't five cards */
+    RIPPLEHATCH_SHARE_LISTS = 19,  /* the lists of wins and shares differ in length, or exceed 7 */
+    RIPPLEHATCH_SHARE_LIMIT = 20   /* a win is above 500,000, or the maximum above 75,000 */
+};
 
 /* Settles a round file. Answers 0 where it is settled: results then holds what each seat is owed, *full and *paid the pool in dollars, full and as paid.
  * Else answers the refusal's number, and *place is the place of the refused record, from 0. What is not told is left as it was. */

@@ -1,6 +1,6 @@
 /* Settles the round file that is named, and prints what the program settle prints: what a pad in C does with the library.
  *
- * The refused record, which is what a dealer is shown, goes to standard error as bytes.
+ * The refused record, which is what a dealer is shown, goes to standard error as bytes. Status: 0 paid, 1 refused, 2 a fault of the call, of reading or of writing.
  */
 #include "ripplehatch.h"
 #include <stdio.h>
@@ -41,21 +41,30 @@ int main(int words, char **word)
     }
     size_t bytes = fread(file, 1, MOST, in);
     int more = fgetc(in) != EOF;
+    int unread = ferror(in);
     fclose(in);
+    if (unread) {
+        fprintf(stderr, "settle: cannot read %s\n", word[1]);
+        return 2;
+    }
     if (more) {
         fprintf(stderr, "settle: a file of more than %d bytes\n", MOST);
-        return 1;
+        return 2;
     }
 
     uint64_t results[RIPPLEHATCH_RESULTS] = {0}, full = 0, paid = 0;
     size_t place = 0;
     unsigned number = ripplehatch_settle_file(file, bytes, results, RIPPLEHATCH_RESULTS, &full, &paid, &place);
-    if (number != 0) {
+    if (number == RIPPLEHATCH_SETTLED) {
+        print_seats(file, bytes, results);
+        printf("pool %llu %llu\n", (unsigned long long)full, (unsigned long long)paid);
+    } else {
         printf("refused %u at %zu\n", number, place);
         print_part(file, bytes);
-        return 0;
     }
-    print_seats(file, bytes, results);
-    printf("pool %llu %llu\n", (unsigned long long)full, (unsigned long long)paid);
-    return 0;
+    if (fflush(stdout) != 0) {
+        fprintf(stderr, "settle: cannot write to standard output\n");
+        return 2;
+    }
+    return number == RIPPLEHATCH_SETTLED ? 0 : 1;
 }

@@ -1,21 +1,25 @@
 //! Settles the round file that is named, and prints what the program `settle` prints: what a pad in Rust does with the library.
 //!
-//! The refused record, which is what a dealer is shown, goes to standard error as bytes.
+//! The refused record, which is what a dealer is shown, goes to standard error as bytes. Status: 0 paid, 1 refused, 2 a fault of the call, of reading or of
+//! writing.
 
 mod ripplehatch;
 
 use ripplehatch::Answer;
+use std::io::Write;
 use std::process::ExitCode;
 
-fn print_seats(file: &[u8], amounts: &[u64]) {
+fn seat_lines(file: &[u8], amounts: &[u64]) -> String {
+    let mut lines = String::new();
     for record in file.chunks_exact(16).filter(|record| record[0] == 2) {
         let seat = record[1] as usize;
-        print!("{seat}");
+        lines += &seat.to_string();
         for amount in &amounts[4 * (seat - 1)..4 * seat] {
-            print!(" {amount}");
+            lines += &format!(" {amount}");
         }
-        println!();
+        lines += "\n";
     }
+    lines
 }
 
 fn print_part(part: &[u8]) {
@@ -27,23 +31,35 @@ fn print_part(part: &[u8]) {
 }
 
 fn main() -> ExitCode {
-    let Some(Ok(file)) = std::env::args_os().nth(1).map(std::fs::read) else {
+    let Some(name) = std::env::args_os().nth(1) else {
         eprintln!("usage: settle FILE, a round file");
         return ExitCode::from(2);
     };
-    match ripplehatch::settle(&file) {
+    let file = match std::fs::read(&name) {
+        Ok(file) => file,
+        Err(error) => {
+            eprintln!("settle: cannot read {}: {error}", name.to_string_lossy());
+            return ExitCode::from(2);
+        }
+    };
+    let answer = ripplehatch::settle(&file);
+    let (text, status) = match answer {
         Answer::Paid {
             amounts,
             full,
             paid,
-        } => {
-            print_seats(&file, &amounts);
-            println!("pool {full} {paid}");
-        }
+        } => (
+            seat_lines(&file, &amounts) + &format!("pool {full} {paid}\n"),
+            0,
+        ),
         Answer::Refused { number, place } => {
-            println!("refused {number} at {place}");
             print_part(ripplehatch::refused_part(&file));
+            (format!("refused {number} at {place}\n"), 1)
         }
+    };
+    if let Err(error) = std::io::stdout().write_all(text.as_bytes()) {
+        eprintln!("settle: cannot write to standard output: {error}");
+        return ExitCode::from(2);
     }
-    ExitCode::SUCCESS
+    ExitCode::from(status)
 }
