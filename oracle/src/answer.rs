@@ -1,7 +1,7 @@
 //! The printed answers.
 
 use crate::reading::{read, Refusal};
-use crate::settle::{part_of_answer, settle, settle_round, Answer};
+use crate::settle::{part_of_answer, settle, settle_round, Answer, Paid};
 
 /// What the settling program prints for a file: "each playing seat's number
 /// and four amounts in cents; then the pool in dollars, full and as paid".
@@ -11,22 +11,16 @@ pub fn lines(file: &[u8]) -> String {
         Err(Refusal { number, place }) => return format!("refused {number} at {place}\n"),
     };
     let mut text = Vec::new();
-    if let Answer::Paid {
-        amounts,
-        full,
-        paid,
-    } = settle_round(&round)
-    {
-        for seat in &round.seats {
-            let first = 4 * usize::from(seat.number - 1);
-            push_number(&mut text, u64::from(seat.number));
-            push_numbers(&mut text, &amounts[first..first + 4]);
-            text.push(b'\n');
-        }
-        text.extend_from_slice(b"pool");
-        push_numbers(&mut text, &[full, paid]);
+    let settled = settle_round(&round);
+    for seat in &round.seats {
+        let first = 4 * usize::from(seat.number - 1);
+        push_number(&mut text, u64::from(seat.number));
+        push_numbers(&mut text, &settled.amounts[first..first + 4]);
         text.push(b'\n');
     }
+    text.extend_from_slice(b"pool");
+    push_numbers(&mut text, &[settled.full, settled.paid]);
+    text.push(b'\n');
     text.into_iter().map(char::from).collect()
 }
 
@@ -34,19 +28,9 @@ pub fn lines(file: &[u8]) -> String {
 pub fn push_stream_line(out: &mut Vec<u8>, file: &[u8]) {
     let answer = settle(file);
     match &answer {
-        Answer::Paid {
-            amounts,
-            full,
-            paid,
-        } => {
-            out.extend_from_slice(b"paid");
-            push_numbers(out, amounts);
-            out.extend_from_slice(b" pool");
-            push_numbers(out, &[*full, *paid]);
-        }
+        Answer::Paid(settled) => push_paid(out, settled),
         Answer::Refused { number, place } => {
-            out.extend_from_slice(b"refused");
-            push_numbers(out, &[u64::from(*number)]);
+            push_refused(out, *number);
             out.extend_from_slice(b" at");
             push_numbers(out, &[*place as u64]);
         }
@@ -56,6 +40,20 @@ pub fn push_stream_line(out: &mut Vec<u8>, file: &[u8]) {
     push_numbers(out, &[begin as u64]);
     push_hex(out, part);
     out.push(b'\n');
+}
+
+/// Appends `paid`, the 28 amounts, `pool` and the pool.
+pub(crate) fn push_paid(out: &mut Vec<u8>, settled: &Paid) {
+    out.extend_from_slice(b"paid");
+    push_numbers(out, &settled.amounts);
+    out.extend_from_slice(b" pool");
+    push_numbers(out, &[settled.full, settled.paid]);
+}
+
+/// Appends `refused` and the number.
+pub(crate) fn push_refused(out: &mut Vec<u8>, number: u8) {
+    out.extend_from_slice(b"refused");
+    push_numbers(out, &[u64::from(number)]);
 }
 
 fn push_hex(out: &mut Vec<u8>, part: &[u8]) {

@@ -5,10 +5,13 @@
 pub mod answer;
 pub mod cards;
 pub mod generate;
+pub mod handmade;
+pub mod held;
 pub mod names;
 pub mod paytables;
 pub mod pool;
 pub mod reading;
+pub mod records;
 pub mod settle;
 pub mod stream;
 pub mod tally;

@@ -2,9 +2,10 @@
 
 use std::fs::File;
 use std::io::{self, BufReader, BufWriter, ErrorKind, Read, Write};
+use std::num::{IntErrorKind, ParseIntError};
 use std::process::ExitCode;
 
-use oracle::{answer, generate, stream, tally, text};
+use oracle::{answer, generate, handmade, stream, tally, text};
 
 const HELP: &str = "\
 oracle: settles rounds of Cajun Stud, and makes rounds to be settled
@@ -16,8 +17,10 @@ oracle: settles rounds of Cajun Stud, and makes rounds to be settled
   oracle pack [FILE]         a readable text to its round file
   oracle show [FILE]         a round file to its readable text
   oracle show --stream K     the K-th file, from 0, of a stream
+  oracle handmade            write a stream of held rounds made by hand
+  oracle hold                answer a stream of held rounds, one line each
 
-Without FILE, and for stream, standard input is read.
+Without FILE, and for stream and hold, standard input is read.
 'oracle COMMAND --help' says more.
 Exit status: 0 done, 1 unreadable input, 2 bad usage.
 ";
@@ -78,6 +81,35 @@ standard input, and prints the text that 'oracle pack' packs to the same bytes.
 With --stream the file's answer line stands above it as a comment.
 ";
 
+const HANDMADE_HELP: &str = "\
+oracle handmade
+
+Writes a stream of held rounds, the same everywhere: some base rounds, and each
+of them with one byte changed, for every byte, to several other values. With
+each goes the record that the base round would accept next (for a finished
+round a choice, which is refused). An item is 159 bytes, with nothing between:
+    6  smallest and largest ante; base, Lo Ball, Board and Pocket tables
+   56  antes, Board, Pocket and Lo Ball wagers of seats 1 to 7, two bytes each,
+       low byte first
+   52  the cards, top first
+    1  how many deck parts were read
+   21  raises in antes, streets one to three, of seats 1 to 7 each
+    7  the street on which each seat folded, from 1; 0 for none
+   16  a record
+";
+
+const HOLD_HELP: &str = "\
+oracle hold
+
+Standard input is a stream as 'oracle handmade' writes it. Prints one line an
+item: what the held round answers to the record, then what settling it is
+answered with a results list of 28.
+  take next settle refused 16
+  take refused 17 settle refused 17
+  take refused 3 settle paid A1 ... A28 pool F P
+'take finished' stands where the record finishes the round.
+";
+
 enum Failure {
     Usage(String),
     Input(String),
@@ -119,11 +151,15 @@ fn run(words: &[&str]) -> Result<(), Failure> {
         [command, "--help" | "-h"] => print(help_of(command)?.as_bytes()),
         ["settle", file @ ..] => print(answer::lines(&input(file)?).as_bytes()),
         ["stream"] => answer_stream(),
-        ["generate", count, seed] => write_generated(number(count)?, number(seed)?),
-        ["tally", count, seed] => print(tally::table(number(count)?, number(seed)?).as_bytes()),
+        ["generate", count, seed] => write_generated(number("N", count)?, number("SEED", seed)?),
+        ["tally", count, seed] => {
+            print(tally::table(number("N", count)?, number("SEED", seed)?).as_bytes())
+        }
         ["pack", file @ ..] => pack(file),
-        ["show", "--stream", place] => show_of_stream(number(place)?),
+        ["show", "--stream", place] => show_of_stream(number("K", place)?),
         ["show", file @ ..] => print(text::show(&input(file)?).as_bytes()),
+        ["handmade"] => write_handmade(),
+        ["hold"] => answer_held(),
         [command, ..] => {
             help_of(command)?;
             Err(Failure::Usage(format!("wrong arguments for {command}")))
@@ -140,13 +176,19 @@ fn help_of(command: &str) -> Result<&'static str, Failure> {
         "tally" => Ok(TALLY_HELP),
         "pack" => Ok(PACK_HELP),
         "show" => Ok(SHOW_HELP),
+        "handmade" => Ok(HANDMADE_HELP),
+        "hold" => Ok(HOLD_HELP),
         _ => Err(Failure::Usage(format!("no command '{command}'"))),
     }
 }
 
-fn number(word: &str) -> Result<u64, Failure> {
-    word.parse()
-        .map_err(|_| Failure::Usage(format!("'{word}' is no number of 0 to {}", u64::MAX)))
+fn number(name: &str, word: &str) -> Result<u64, Failure> {
+    word.parse().map_err(|error: ParseIntError| {
+        Failure::Usage(match error.kind() {
+            IntErrorKind::PosOverflow => format!("{name} is at most {}, not {word}", u64::MAX),
+            _ => format!("{name} is a whole number from 0, not '{word}'"),
+        })
+    })
 }
 
 fn print(bytes: &[u8]) -> Result<(), Failure> {
@@ -186,6 +228,20 @@ fn write_generated(count: u64, seed: u64) -> Result<(), Failure> {
         stream::put_file(&mut to, &generator.make(place).file)?;
     }
     Ok(to.flush()?)
+}
+
+fn write_handmade() -> Result<(), Failure> {
+    let mut to = BufWriter::with_capacity(1 << 16, io::stdout().lock());
+    handmade::write_all(&mut to)?;
+    Ok(to.flush()?)
+}
+
+fn answer_held() -> Result<(), Failure> {
+    let mut from = BufReader::with_capacity(1 << 16, io::stdin().lock());
+    let mut to = BufWriter::with_capacity(1 << 16, io::stdout().lock());
+    let answered = handmade::answer_all(&mut from, &mut to);
+    to.flush()?;
+    Ok(answered?)
 }
 
 fn pack(file: &[&str]) -> Result<(), Failure> {

@@ -37,24 +37,30 @@ pub struct Seat {
     pub board: u16,
     pub pocket: u16,
     pub lo_ball: u16,
-    /// The antes raised so far, all streets together.
-    pub raises: u16,
+    /// The antes raised on each street.
+    pub raises: [u8; STREETS as usize],
     pub folded: bool,
     /// The streets on which the seat has chosen.
     pub chosen: u8,
 }
 
 impl Seat {
+    /// The antes raised so far, all streets together.
+    pub fn raised(&self) -> u16 {
+        self.raises.iter().copied().map(u16::from).sum()
+    }
+
     /// "The base wager is ante plus raises as one sum."
     pub fn base_wager(&self) -> u64 {
-        u64::from(self.ante) * (1 + u64::from(self.raises))
+        u64::from(self.ante) * (1 + u64::from(self.raised()))
     }
 }
 
-struct Round {
-    table: Option<Table>,
-    seats: Vec<Seat>,
-    deck: Vec<u8>,
+/// A round in progress.
+pub(crate) struct Round {
+    pub table: Option<Table>,
+    pub seats: Vec<Seat>,
+    pub deck: Vec<u8>,
     /// Streets that are over.
     streets: u8,
 }
@@ -91,7 +97,7 @@ pub fn read(file: &[u8]) -> Result<Finished, Refusal> {
 }
 
 impl Round {
-    fn fresh() -> Round {
+    pub fn fresh() -> Round {
         Round {
             table: None,
             seats: Vec::with_capacity(MOST_SEATS),
@@ -100,12 +106,12 @@ impl Round {
         }
     }
 
-    fn is_finished(&self) -> bool {
+    pub fn is_finished(&self) -> bool {
         let dealt = self.deck.len() == DECK;
         dealt && (self.streets == STREETS || self.seats.iter().all(|seat| seat.folded))
     }
 
-    fn finish(self) -> Option<Finished> {
+    pub fn finish(self) -> Option<Finished> {
         if !self.is_finished() {
             return None;
         }
@@ -117,8 +123,10 @@ impl Round {
     }
 
     /// Takes the next record. The refusals stand in the order of their
-    /// numbers: "within a record the lowest number applies".
-    fn take(&mut self, record: &[u8]) -> Result<(), u8> {
+    /// numbers: "within a record the lowest number applies". A refused record
+    /// changes nothing.
+    pub fn take(&mut self, record: &[u8]) -> Result<(), u8> {
+        refuse(2, record.len() != RECORD)?;
         let kind = record[0];
         match (kind, &self.table) {
             (TABLE, None) => self.take_table(record),
@@ -184,7 +192,7 @@ impl Round {
             board,
             pocket,
             lo_ball,
-            raises: 0,
+            raises: [0; STREETS as usize],
             folded: false,
             chosen: 0,
         });
@@ -215,7 +223,7 @@ impl Round {
         refuse(15, seat.chosen > streets)?;
         seat.chosen += 1;
         seat.folded = choice == 0;
-        seat.raises += u16::from(choice);
+        seat.raises[usize::from(streets)] = choice;
         self.open_next_street();
         Ok(())
     }

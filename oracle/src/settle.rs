@@ -8,21 +8,22 @@ use crate::reading::{read, Finished, Refusal, Seat, MOST_SEATS, RECORD};
 
 pub const RESULTS: usize = 4 * MOST_SEATS;
 
+/// What a finished round is settled with.
+#[derive(Clone, Copy, Debug, PartialEq, Eq)]
+pub struct Paid {
+    /// Cents, "four a seat, seats 1 to 7, in the order base, Board, Pocket,
+    /// Lo Ball".
+    pub amounts: [u64; RESULTS],
+    /// The pool in dollars, full and as paid.
+    pub full: u64,
+    pub paid: u64,
+}
+
 #[derive(Clone, Copy, Debug, PartialEq, Eq)]
 #[allow(clippy::large_enum_variant)]
 pub enum Answer {
-    Paid {
-        /// Cents, "four a seat, seats 1 to 7, in the order base, Board,
-        /// Pocket, Lo Ball".
-        amounts: [u64; RESULTS],
-        /// The pool in dollars, full and as paid.
-        full: u64,
-        paid: u64,
-    },
-    Refused {
-        number: u8,
-        place: usize,
-    },
+    Paid(Paid),
+    Refused { number: u8, place: usize },
 }
 
 /// The names on which the wagers of one seat are settled.
@@ -36,7 +37,7 @@ pub(crate) struct SeatNames {
 
 pub fn settle(file: &[u8]) -> Answer {
     match read(file) {
-        Ok(round) => settle_round(&round),
+        Ok(round) => Answer::Paid(settle_round(&round)),
         Err(Refusal { number, place }) => Answer::Refused { number, place },
     }
 }
@@ -52,13 +53,13 @@ pub fn refused_part(file: &[u8]) -> (usize, &[u8]) {
 pub(crate) fn part_of_answer<'a>(file: &'a [u8], answer: &Answer) -> (usize, &'a [u8]) {
     let (begin, end) = match *answer {
         Answer::Refused { number: 2, place } => (place * RECORD, file.len()),
-        Answer::Paid { .. } | Answer::Refused { number: 16, .. } => (file.len(), file.len()),
+        Answer::Paid(_) | Answer::Refused { number: 16, .. } => (file.len(), file.len()),
         Answer::Refused { place, .. } => (place * RECORD, (place + 1) * RECORD),
     };
     (begin, file.get(begin..end).unwrap_or(&[]))
 }
 
-pub(crate) fn settle_round(round: &Finished) -> Answer {
+pub(crate) fn settle_round(round: &Finished) -> Paid {
     let table = &round.table;
     let mut amounts = [0; RESULTS];
     let mut wins = [0; MOST_SEATS];
@@ -79,7 +80,7 @@ pub(crate) fn settle_round(round: &Finished) -> Answer {
             paytables::lo_ball(table.lo_ball, names.lo_ball).handed_back(u64::from(seat.lo_ball));
     }
     let paid = pay_pool(round, &wins, &mut amounts);
-    Answer::Paid {
+    Paid {
         amounts,
         full: wins.iter().sum(),
         paid,

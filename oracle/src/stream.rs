@@ -22,7 +22,8 @@ pub fn next_file(from: &mut impl Read, file: &mut Vec<u8>) -> io::Result<bool> {
     Ok(true)
 }
 
-fn read_up_to(from: &mut impl Read, bytes: &mut [u8]) -> io::Result<usize> {
+/// Fills the bytes as far as the stream goes; tells how many it filled.
+pub(crate) fn read_up_to(from: &mut impl Read, bytes: &mut [u8]) -> io::Result<usize> {
     let mut filled = 0;
     while filled < bytes.len() {
         match from.read(&mut bytes[filled..]) {
@@ -35,7 +36,7 @@ fn read_up_to(from: &mut impl Read, bytes: &mut [u8]) -> io::Result<usize> {
     Ok(filled)
 }
 
-fn ended_inside(what: &str) -> io::Error {
+pub(crate) fn ended_inside(what: &str) -> io::Error {
     io::Error::new(
         ErrorKind::UnexpectedEof,
         format!("the stream ends inside {what}"),

@@ -8,7 +8,7 @@ use crate::generate::{Generator, Made};
 use crate::names::FiveName;
 use crate::pool::maximum;
 use crate::reading::{read, Finished, Seat};
-use crate::settle::{names_of_seat, settle_round, Answer, SeatNames};
+use crate::settle::{names_of_seat, settle_round, Paid, SeatNames};
 
 const FIVE_NAMES: [&str; 11] = [
     "royal flush",
@@ -215,14 +215,11 @@ impl Tally {
     }
 
     fn round(&mut self, round: &Finished) {
-        let Answer::Paid {
+        let Paid {
             amounts,
             full,
             paid,
-        } = settle_round(round)
-        else {
-            return;
-        };
+        } = settle_round(round);
         let most = maximum(round.table.smallest);
         self.pools.count(pool_level(full, most));
         self.seats.count(round.seats.len() - 1);
@@ -297,7 +294,7 @@ impl Tally {
             });
         }
         if !seat.folded {
-            self.wagers.count(7 + place_between(3, seat.raises, 9));
+            self.wagers.count(7 + place_between(3, seat.raised(), 9));
         }
     }
 

@@ -14,7 +14,7 @@ fn each_file_is_answered_as_it_was_meant() {
             let made = generator.make(place);
             let answer = settle(&made.file);
             match made.damage {
-                None => assert!(matches!(answer, Answer::Paid { .. }), "{seed} {place}"),
+                None => assert!(matches!(answer, Answer::Paid(_)), "{seed} {place}"),
                 Some((way, Expected::Refusal(number, at))) => assert_eq!(
                     answer,
                     Answer::Refused { number, place: at },

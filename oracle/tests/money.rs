@@ -4,7 +4,7 @@ use oracle::answer::lines;
 use oracle::paytables::Pays::{self, Loss, Push, ThreeHalves, To};
 use oracle::paytables::{BASE, BOARD, LO_BALL, POCKET};
 use oracle::pool::share;
-use oracle::settle::{refused_part, settle, Answer};
+use oracle::settle::{refused_part, settle, Answer, Paid};
 use oracle::text::pack;
 
 /// The column of a pay table.
@@ -96,11 +96,11 @@ fn the_whole_round_of_document_01() {
     assert_eq!(lines(&file), printed);
     let mut amounts = [0; 28];
     amounts[..8].copy_from_slice(&[2_183_300, 20_500, 10_500, 0, 516_600, 0, 0, 0]);
-    let answer = Answer::Paid {
+    let answer = Answer::Paid(Paid {
         amounts,
         full: 600_000,
         paid: 24_999,
-    };
+    });
     assert_eq!(settle(&file), answer);
     assert_eq!(refused_part(&file), (208, &[][..]));
 }

@@ -110,7 +110,9 @@ fn packs_and_shows() {
 #[test]
 fn helps() {
     let help = printed(&["--help"], &[]);
-    for command in ["settle", "stream", "generate", "tally", "pack", "show"] {
+    for command in [
+        "settle", "stream", "generate", "tally", "pack", "show", "handmade", "hold",
+    ] {
         assert!(help.contains(&format!("oracle {command}")));
         assert!(printed(&[command, "--help"], &[]).contains(command));
     }
@@ -119,7 +121,7 @@ fn helps() {
 
 #[test]
 fn exit_statuses() {
-    let usages: [&[&str]; 9] = [
+    let usages: [&[&str]; 11] = [
         &[],
         &["deal"],
         &["deal", "--help"],
@@ -129,6 +131,8 @@ fn exit_statuses() {
         &["settle", "--fast"],
         &["show", "--stream", "-1"],
         &["pack", "one", "two"],
+        &["handmade", "1"],
+        &["hold", "file"],
     ];
     for words in usages {
         assert_eq!(status(words, &[]), Some(2), "{words:?}");
@@ -137,4 +141,63 @@ fn exit_statuses() {
     assert_eq!(status(&["pack"], b"chair 1"), Some(1));
     assert_eq!(status(&["pack"], &[255]), Some(1));
     assert_eq!(status(&["show", "--stream", "1"], &[0, 0]), Some(1));
+}
+
+#[test]
+fn numbers_that_are_too_large() {
+    let too_large = ["18446744073709551616", "99999999999999999999999999999999"];
+    for large in too_large {
+        let calls: [(&str, &[&str]); 5] = [
+            ("N", &["generate", large, "1"]),
+            ("SEED", &["generate", "1", large]),
+            ("N", &["tally", large, "1"]),
+            ("SEED", &["tally", "1", large]),
+            ("K", &["show", "--stream", large]),
+        ];
+        for (name, words) in calls {
+            let output = oracle(words, &[]);
+            let error = String::from_utf8(output.stderr).unwrap();
+            let most = format!("oracle: {name} is at most 18446744073709551615, not {large};");
+            assert_eq!(output.status.code(), Some(2), "{words:?}");
+            assert!(error.starts_with(&most), "{error}");
+            assert_eq!(error.lines().count(), 1);
+            assert!(output.stdout.is_empty());
+        }
+    }
+    assert!(!oracle(&["generate", "1", "18446744073709551615"], &[])
+        .stdout
+        .is_empty());
+}
+
+#[test]
+fn answers_held_rounds() {
+    let stream = oracle(&["handmade"], &[]).stdout;
+    let answers = printed(&["hold"], &stream);
+    assert_eq!(stream.len() % 159, 0);
+    assert_eq!(answers.lines().count(), stream.len() / 159);
+    let lines = "take next settle refused 16\ntake refused 17 settle refused 17\n";
+    assert!(
+        answers.starts_with(lines),
+        "the fresh round, then one changed"
+    );
+    let mut fresh = [0; 159];
+    fresh[143..].copy_from_slice(&round()[..16]);
+    assert_eq!(printed(&["hold"], &fresh), &lines[..28]);
+    fresh[143] = 2;
+    let line = "take refused 3 settle refused 16\n";
+    assert_eq!(printed(&["hold"], &fresh), line);
+    assert_eq!(printed(&["hold"], &[]), "");
+}
+
+#[test]
+fn held_rounds_that_end_inside_an_item() {
+    let stream = oracle(&["handmade"], &[]).stdout;
+    for length in [1, 142, 143, 144, 158, 160, 159 + 143, 159 + 158] {
+        let output = oracle(&["hold"], &stream[..length]);
+        let answers = String::from_utf8(output.stdout).unwrap();
+        assert_eq!(output.status.code(), Some(1), "{length}");
+        assert_eq!(answers.lines().count(), length / 159);
+        let error = String::from_utf8(output.stderr).unwrap();
+        assert_eq!(error, "oracle: the stream ends inside an item\n");
+    }
 }

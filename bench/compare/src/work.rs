@@ -36,14 +36,10 @@ pub fn settling(files: Vec<Vec<u8>>) -> Result<Work, String> {
 /// What oracle/ answers, as the library says it.
 fn theirs(file: &[u8]) -> Answer {
     match settle::settle(file) {
-        settle::Answer::Paid {
-            amounts,
-            full,
-            paid,
-        } => Answer::Paid {
-            amounts,
-            full,
-            paid,
+        settle::Answer::Paid(settled) => Answer::Paid {
+            amounts: settled.amounts,
+            full: settled.full,
+            paid: settled.paid,
         },
         settle::Answer::Refused { number, place } => Answer::Refused { number, place },
     }

@@ -5,7 +5,8 @@ use super::stacks::{self, Stacked, STACKS};
 use crate::names::{five_name, FiveName};
 use crate::paytables::{BASE_TABLES, BOARD_TABLES, LO_BALL_TABLES, POCKET_TABLES};
 use crate::pool;
-use crate::reading::{CARDS_IN_PART, CHOICE, DECK_PART, MOST_SEATS, RECORD, SEAT, TABLE};
+use crate::reading::{CARDS_IN_PART, MOST_SEATS, RECORD};
+use crate::records;
 
 pub const FOLDS: [&str; 10] = [
     "nobody folds",
@@ -256,41 +257,26 @@ impl Draft {
     pub fn file(&self) -> Vec<u8> {
         let mut file = Vec::with_capacity(48 * RECORD);
         let [base, lo_ball, board, pocket] = self.tables;
-        let limits = [self.smallest as u8, self.largest as u8];
-        let table = [TABLE, limits[0], limits[1], base, lo_ball, board, pocket];
-        file.extend_from_slice(&record(&table));
+        let [smallest, largest] = [self.smallest as u8, self.largest as u8];
+        let table = [smallest, largest, base, lo_ball, board, pocket];
+        file.extend_from_slice(&records::table(table));
         for seat in &self.seats {
             file.extend_from_slice(&seat_record(seat));
         }
         for (part, cards) in self.deck.chunks(CARDS_IN_PART).enumerate() {
-            let mut whole = record(&[DECK_PART, part as u8]);
-            whole[2..2 + cards.len()].copy_from_slice(cards);
-            file.extend_from_slice(&whole);
+            file.extend_from_slice(&records::deck_part(part as u8, cards));
         }
         for [seat, choice] in &self.choices {
-            file.extend_from_slice(&record(&[CHOICE, *seat, *choice]));
+            file.extend_from_slice(&records::choice(*seat, *choice));
         }
         file
     }
 }
 
-/// A record that begins with these bytes.
-pub fn record(bytes: &[u8]) -> [u8; RECORD] {
-    let mut whole = [0; RECORD];
-    for (to, from) in whole.iter_mut().zip(bytes) {
-        *to = *from;
-    }
-    whole
-}
-
 pub fn seat_record(seat: &DraftSeat) -> [u8; RECORD] {
-    let mut whole = record(&[SEAT, seat.number]);
     let [board, pocket, lo_ball] = seat.sides;
-    for (order, wager) in [seat.ante, board, pocket, lo_ball].into_iter().enumerate() {
-        let at = 2 + 2 * order;
-        whole[at..at + 2].copy_from_slice(&(wager as u16).to_le_bytes());
-    }
-    whole
+    let wagers = [seat.ante, board, pocket, lo_ball];
+    records::seat(seat.number, wagers.map(|wager| wager as u16))
 }
 
 /// Rising seat numbers with gaps, at least so many.

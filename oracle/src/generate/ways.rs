@@ -3,9 +3,10 @@
 
 use std::ops::Range;
 
-use super::draft::{record, seat_record, Draft, DraftSeat};
+use super::draft::{seat_record, Draft, DraftSeat};
 use super::prng::Prng;
 use crate::reading::{CHOICE, DECK_PART, RECORD, SEAT, TABLE};
+use crate::records::record;
 
 /// What a damaged file must be answered with.
 #[derive(Clone, Copy, Debug, PartialEq, Eq)]

@@ -1,0 +1,407 @@
+//! Held rounds made by hand: which of them may be held, and the items that are
+//! made of the base rounds.
+//!
+//! The places in a held round's 143 bytes: table 0 to 5; antes from 6, Board
+//! wagers from 20, Pocket from 34, Lo Ball from 48, two bytes a seat; cards
+//! from 62; deck parts read 114; raises from 115, seven a street; folds from
+//! 136.
+
+use oracle::handmade::bases::{all, Base};
+use oracle::handmade::{items, items_of, push_line, Item, ITEM};
+use oracle::held::{Held, Step};
+
+fn base(name: &str) -> Base {
+    let found = all().into_iter().find(|base| base.name == name);
+    found.unwrap_or_else(|| panic!("no base round '{name}'"))
+}
+
+/// A base round with the bytes at some places changed.
+fn changed(name: &str, changes: &[(usize, u8)]) -> Held {
+    let mut bytes = base(name).held.bytes();
+    for &(at, value) in changes {
+        bytes[at] = value;
+    }
+    Held::from_bytes(&bytes)
+}
+
+fn line(item: &Item) -> String {
+    let mut out = Vec::new();
+    push_line(&mut out, item);
+    String::from_utf8(out).unwrap()
+}
+
+#[test]
+fn the_bytes_of_a_round_in_play() {
+    let numbers = |list: &[u8]| -> Vec<u8> { list.iter().flat_map(|&low| [low, 0]).collect() };
+    let mut expected = vec![15, 25, 1, 2, 1, 3];
+    expected.extend(numbers(&[25, 0, 15, 20, 0, 16, 15]));
+    expected.extend(numbers(&[25, 0, 0, 0, 0, 1, 0]));
+    expected.extend(numbers(&[0, 0, 0, 0, 0, 2, 24]));
+    expected.extend(numbers(&[25, 0, 5, 0, 0, 3, 0]));
+    // Each card is five above the one before it, counted round the deck.
+    expected.extend((1..=52).map(|place| (5 * place % 52) as u8));
+    expected.push(4);
+    // Seat 3 folded on street one, seat 7 on street two. Seats 1 and 4 have
+    // still to choose on street two.
+    expected.extend([3, 0, 0, 1, 0, 2, 1]);
+    expected.extend([0, 0, 0, 0, 0, 3, 0]);
+    expected.extend([0; 7]);
+    expected.extend([0, 0, 1, 0, 0, 0, 2]);
+    assert_eq!(base("street two").held.bytes()[..], expected);
+}
+
+#[test]
+fn high_bytes_come_second() {
+    let held = changed("street two", &[(6, 1), (7, 2), (61, 255)]);
+    assert_eq!(held.wagers[0][0], 256 * 2 + 1);
+    assert_eq!(held.wagers[3][6], 256 * 255);
+}
+
+#[test]
+fn each_base_round_is_held_and_comes_back() {
+    for base in all() {
+        assert!(base.held.is_held(), "{}", base.name);
+        let bytes = base.held.bytes();
+        assert_eq!(Held::from_bytes(&bytes), base.held, "{}", base.name);
+        assert_eq!(Held::from_bytes(&bytes).bytes(), bytes, "{}", base.name);
+    }
+    assert_eq!(base("the fresh round").held.bytes(), [0; 143]);
+}
+
+/// The numbers of records that led to the base rounds: none of them was
+/// refused.
+#[test]
+fn each_base_round_has_come_as_far_as_meant() {
+    let counts: Vec<usize> = (all().iter())
+        .map(|base| base.held.own_records().len())
+        .collect();
+    assert_eq!(counts, [0, 1, 4, 7, 9, 13, 17, 17, 14]);
+}
+
+#[test]
+fn each_base_round_takes_its_record_unless_finished() {
+    for base in all() {
+        let step = base.held.take(&base.record);
+        if base.name.starts_with("finished") {
+            assert_eq!(base.record[0], 4, "a choice");
+            assert_eq!(step, Step::Refused(3), "{}", base.name);
+            assert!(base.held.settle().is_ok());
+        } else {
+            assert!(matches!(step, Step::Next(_)), "{}", base.name);
+            assert_eq!(base.held.settle(), Err(16));
+        }
+    }
+}
+
+/// The board is Th Jh Qh, a straight flush at 40. Seat 1 has a royal flush on
+/// 20 × 10 = 200 dollars and A-K suited at 20, seat 2 a straight flush on
+/// 30 × 7 = 210, seat 5 three queens on 12 × 5 = 60 at 3 and a pair at 5. Of
+/// 100,000 and 21,000 under 50,000 are paid 41,322 and 8,677.
+#[test]
+fn the_finished_round_without_a_fold() {
+    let paid = "take refused 3 settle paid 4152200 20500 10500 0 888700 0 0 0 \
+                0 0 0 0 0 0 0 0 24000 0 35400 0 0 0 0 0 0 0 0 0 pool 121000 49999\n";
+    assert_eq!(line(&items_of(&base("finished, no fold"))[0]), paid);
+}
+
+/// The board is 4h 9h Jh, a flush at 4. Seat 3 has aces at 30, seat 5 jack
+/// high at 1, seat 7 a pair at 5.
+#[test]
+fn the_finished_round_in_which_all_folded() {
+    let paid = "take refused 3 settle paid 0 0 0 0 0 0 0 0 0 5000 306900 0 \
+                0 0 0 0 0 0 0 4000 0 0 0 0 0 500 58800 0 pool 0 0\n";
+    assert_eq!(line(&items_of(&base("finished, all folded"))[0]), paid);
+}
+
+/// A fresh round has no other that a single byte leads to: a table has six
+/// numbers, none of them 0, and all else follows the table.
+#[test]
+fn every_single_byte_change_of_the_fresh_round_is_17() {
+    let fresh = base("the fresh round");
+    for at in 0..143 {
+        for value in 1..=255 {
+            let mut bytes = [0; 143];
+            bytes[at] = value;
+            let held = Held::from_bytes(&bytes);
+            assert!(!held.is_held(), "{value} at {at}");
+            assert_eq!(held.take(&fresh.record), Step::Refused(17));
+            assert_eq!(held.settle(), Err(17));
+        }
+    }
+}
+
+type Case<'a> = (&'a str, &'a str, &'a [(usize, u8)]);
+
+#[rustfmt::skip]
+const STILL_HELD: &[Case] = &[
+    ("another smallest ante", "a table", &[(0, 15)]),
+    ("another largest ante", "a table", &[(1, 25)]),
+    ("another base table", "street two", &[(2, 5)]),
+    ("another Lo Ball table", "finished, no fold", &[(3, 2)]),
+    ("another Board table", "two deck parts", &[(4, 1)]),
+    ("another Pocket table", "a whole deck", &[(5, 3)]),
+    ("largest ante above all wagers", "street two", &[(1, 26)]),
+    ("ante at the lower limit", "street two", &[(6, 15)]),
+    ("ante between the limits", "finished, all folded", &[(18, 77)]),
+    ("side wager taken away", "street two", &[(20, 0)]),
+    ("side wager at the largest ante", "finished, no fold", &[(20, 60)]),
+    ("a first seat", "a table", &[(12, 5)]),
+    ("a seat more", "seats", &[(6, 100)]),
+    ("a seat more after the deck", "a whole deck", &[(18, 100)]),
+    ("a seat more on street one", "street one", &[(8, 15)]),
+    ("a seat less", "a whole deck", &[(12, 0)]),
+    ("a seat less, still to choose", "street one", &[(12, 0)]),
+    ("another card", "two deck parts", &[(62, 51)]),
+    ("two cards changed round", "finished, no fold", &[(62, 46), (63, 50)]),
+    ("one part less", "two deck parts", &[
+        (114, 1), (75, 0), (76, 0), (77, 0), (78, 0), (79, 0), (80, 0), (81, 0), (82, 0), (83, 0),
+        (84, 0), (85, 0), (86, 0), (87, 0)]),
+    ("a raise of 1", "a whole deck", &[(115 + 1, 1)]),
+    ("a raise of 2", "street two", &[(115, 2)]),
+    ("a raise of 3", "street two", &[(115 + 7, 3)]),
+    ("the last raise of 1", "finished, no fold", &[(115 + 14, 1)]),
+    ("a last raise taken back", "finished, no fold", &[(115 + 18, 0)]),
+    ("a raise on street one taken back", "street one", &[(115 + 5, 0)]),
+    ("a fold on street one", "a whole deck", &[(136 + 5, 1)]),
+    ("a fold on street two", "street two", &[(136, 2)]),
+    ("a fold for the last raise", "finished, no fold", &[(115 + 14, 0), (136, 3)]),
+    ("a last fold taken back", "finished, all folded", &[(136 + 4, 0)]),
+    ("a raise for the last fold", "finished, all folded", &[(136 + 4, 0), (115 + 18, 2)]),
+];
+
+#[test]
+fn changes_that_are_still_held() {
+    for (what, name, changes) in STILL_HELD {
+        assert!(changed(name, changes).is_held(), "{what}");
+    }
+}
+
+#[rustfmt::skip]
+const NOT_HELD: &[Case] = &[
+    ("smallest ante 4", "a table", &[(0, 4)]),
+    ("smallest ante 16", "a table", &[(0, 16)]),
+    ("smallest ante above an ante", "finished, no fold", &[(0, 13)]),
+    ("largest ante 24", "a table", &[(1, 24)]),
+    ("largest ante 101", "a table", &[(1, 101)]),
+    ("largest ante below a side wager", "finished, no fold", &[(1, 58)]),
+    ("no base table", "a table", &[(2, 0)]),
+    ("base table 6", "a table", &[(2, 6)]),
+    ("Lo Ball table 3", "a table", &[(3, 3)]),
+    ("Board table 5", "a table", &[(4, 5)]),
+    ("Pocket table 4", "a table", &[(5, 4)]),
+    ("no table", "seats", &[(0, 0), (1, 0), (2, 0), (3, 0), (4, 0), (5, 0)]),
+    ("ante below its limit", "finished, all folded", &[(10, 11)]),
+    ("ante above its limit", "street two", &[(6, 26)]),
+    ("high byte of an ante", "street two", &[(7, 1)]),
+    ("high byte of a side wager", "street two", &[(21, 1)]),
+    ("side wager above the largest ante", "street two", &[(60, 26)]),
+    ("Board wager of an absent seat", "a table", &[(20, 1)]),
+    ("Pocket wager of an absent seat", "street two", &[(36, 1)]),
+    ("Lo Ball wager of an absent seat", "finished, no fold", &[(52, 1)]),
+    ("side wagers left without an ante", "seats", &[(8, 0)]),
+    ("a seat more on street two", "street two", &[(8, 15)]),
+    ("a seat more in a finished round", "finished, no fold", &[(10, 10)]),
+    ("a seat less that has chosen", "street two", &[(12, 0)]),
+    ("a seat less that folded", "finished, all folded", &[(10, 0), (24, 0), (38, 0)]),
+    ("repeated card in the part", "two deck parts", &[(62, 3)]),
+    ("repeated card of another part", "two deck parts", &[(62, 0)]),
+    ("repeated card of a whole deck", "finished, no fold", &[(113, 50)]),
+    ("card 52", "two deck parts", &[(62, 52)]),
+    ("card 255", "a whole deck", &[(113, 255)]),
+    ("card beyond the parts read", "two deck parts", &[(88, 27)]),
+    ("last card beyond the parts read", "two deck parts", &[(113, 2)]),
+    ("card without a part", "seats", &[(62, 1)]),
+    ("a fifth part", "a whole deck", &[(114, 5)]),
+    ("part 255", "a whole deck", &[(114, 255)]),
+    ("parts that have not come", "two deck parts", &[(114, 4)]),
+    ("a part not counted", "two deck parts", &[(114, 1)]),
+    ("cards not counted", "two deck parts", &[(114, 0)]),
+    ("a part without seats", "a table", &[(114, 1)]),
+    ("a raise of 4", "street two", &[(115, 4)]),
+    ("a raise of 255", "street two", &[(115, 255)]),
+    ("a raise of an absent seat", "street two", &[(115 + 1, 1)]),
+    ("a raise before the deck is whole", "two deck parts", &[(115 + 1, 1)]),
+    ("a raise before the table", "the fresh round", &[(115, 1)]),
+    ("a raise on street two ahead of it", "street one", &[(115 + 7, 1)]),
+    ("a raise on street three ahead of it", "street two", &[(115 + 14 + 5, 1)]),
+    ("a raise on street two alone", "a whole deck", &[(115 + 7 + 1, 1)]),
+    ("a raise missing on street one", "street two", &[(115, 0)]),
+    ("a raise missing on street two", "finished, no fold", &[(115 + 7, 0)]),
+    ("a raise on the street of the fold", "street two", &[(115 + 2, 1)]),
+    ("a raise after the fold", "street two", &[(115 + 7 + 2, 1)]),
+    ("a raise after all have folded", "finished, all folded", &[(115 + 14 + 2, 1)]),
+    ("a fold on the street of a raise", "street two", &[(136, 1)]),
+    ("a fold on the last raise's street", "finished, no fold", &[(136, 3)]),
+    ("a fold without raises before it", "a whole deck", &[(136 + 1, 2)]),
+    ("a fold without the second raise", "finished, all folded", &[(136 + 6, 3)]),
+    ("a fold on street two ahead of it", "street one", &[(136, 2)]),
+    ("a fold on street 4", "finished, all folded", &[(136 + 4, 4)]),
+    ("a fold of an absent seat", "street two", &[(136 + 1, 1)]),
+    ("a fold of an absent seat on street 255", "street two", &[(136 + 1, 255)]),
+    ("a fold before the deck", "seats", &[(136 + 1, 1)]),
+    ("a fold taken back too late", "street two", &[(136 + 2, 0)]),
+];
+
+#[test]
+fn changes_that_are_17() {
+    for (what, name, changes) in NOT_HELD {
+        let held = changed(name, changes);
+        assert!(!held.is_held(), "{what}");
+        assert_eq!(held.take(&base(name).record), Step::Refused(17), "{what}");
+        assert_eq!(held.settle(), Err(17), "{what}");
+    }
+}
+
+/// "One record: 17, 2, then the rest."
+#[test]
+fn refusal_2_stands_between_17_and_the_rest() {
+    let base = base("finished, no fold");
+    let fifteen = &base.record[..15];
+    let seventeen = [&base.record[..], &[0]].concat();
+    for record in [&[][..], fifteen, &seventeen] {
+        assert_eq!(base.held.take(record), Step::Refused(2));
+        let no_round = changed(base.name, &[(114, 5)]);
+        assert_eq!(no_round.take(record), Step::Refused(17));
+    }
+}
+
+/// Each count begins with the base round itself. Where a number is at a limit,
+/// its neighbour beyond it and the other values outside fall away; side wagers
+/// of absent seats and high bytes have no other value; a card of a whole deck
+/// has none, since all others lie in it.
+#[test]
+fn how_many_items_are_held() {
+    let counts = [
+        // Nothing but a whole table leads away from the fresh round.
+        ("the fresh round", 1),
+        // Table 5, 100, 5, 1, 4, 2: smallest ante 6, 15; largest 99, 25; base
+        // table 4, 1; Lo Ball 2; Board 3, 1; Pocket 3, 1. Each of seven seats
+        // with an ante of 5 or 100.
+        ("a table", 1 + 11 + 7 * 2),
+        // With antes of 5 and 100 no other limit fits: seven table numbers.
+        // Antes: two for each of four absent seats; 6, 100 for seat 2; 99, 5
+        // and none for seat 4; 51, 49, 5, 100 for seat 5. Side wagers, seat by
+        // seat: two for 0 and for 100, three for 1 and for 99.
+        ("seats", 1 + 7 + (8 + 2 + 3 + 4) + (7 + 6 + 8)),
+        // Seat 6 is no longer absent: its ante 21, 19, 5, 100, six side
+        // wagers. Read are the odd cards to 25, the even ones from 28, and 0.
+        // One above: 13 + 12 of these are unread. One below: 12 + 12. The
+        // lowest unread is 2, counted already for 1 and 3.
+        (
+            "two deck parts",
+            1 + 7 + (6 + 2 + 3 + 4 + 4) + (21 + 6) + (25 + 24 + 24),
+        ),
+        // No card, but three raises and a fold for each of four seats.
+        ("a whole deck", 1 + 7 + 19 + 27 + 4 * 3 + 4),
+        // Table 15, 25, 1, 2, 1, 3: 14, 5; 26, 100; 2, 5; 1; 2, 4; 2, 1.
+        // Antes: two for seats 2 and 5 each, which are absent, and 2, 2, 5, 3,
+        // 2 for the others; seat 4 may leave. Side wagers, seat by seat: two
+        // for 0 and 25, three for 1 and 24, four for 2, 3 and 5. Raises, on
+        // street one alone: two others or none for seats 1 and 6, three for
+        // seats 4 and 7. Seat 3 has not folded, or 4 or 7 has.
+        (
+            "street one",
+            1 + 11 + (4 + 14) + (6 + 8 + 6 + 11 + 7) + 4 * 3 + 3,
+        ),
+        // No seat comes or leaves. Raises: two others for four seats on street
+        // one; on street two three for seats 1 and 4, two or none for seat 6.
+        // Seat 7 has not folded, or 1 or 4 has.
+        ("street two", 1 + 11 + 13 + 38 + 4 * 2 + 3 * 3 + 3),
+        // Table 10, 60, 2, 1, 2, 1: 11, 9, 5; 61, 59, 100; 3, 1, 5; 2; 3, 1,
+        // 4; 2, 3. Four antes for each seat. Side wagers: two for 0, three for
+        // 59, four for 5 and 10. Two other raises on each street, and on
+        // street three none.
+        (
+            "finished, no fold",
+            1 + 15 + 3 * 4 + (10 + 10 + 7) + 9 * 2 + 3,
+        ),
+        // Table 12, 99, 4, 2, 3, 2: 13, 11, 5; 100; 5, 3, 1; 1; 4, 2, 1; 3, 1.
+        // Antes: 14, 12, 99; 98, 12; 41, 39, 12, 99. Side wagers: two for 0
+        // and 99, three for 1 and 98, four for the others. Two for each of
+        // three raises. Seat 5 alone may not have folded.
+        (
+            "finished, all folded",
+            1 + 13 + (3 + 2 + 4) + (8 + 8 + 10) + 3 * 2 + 1,
+        ),
+    ];
+    for (base, (name, count)) in all().iter().zip(counts) {
+        let is_held = |item: &&Item| Held::from_bytes(&item.held).is_held();
+        assert_eq!(base.name, name);
+        assert_eq!(
+            items_of(base).iter().filter(is_held).count(),
+            count,
+            "{name}"
+        );
+    }
+    assert_eq!(all().len(), counts.len());
+}
+
+#[test]
+fn each_byte_of_each_base_round_is_changed() {
+    for base in all() {
+        let items = items_of(&base);
+        let unchanged = items[0].held;
+        assert_eq!(unchanged, base.held.bytes(), "{}", base.name);
+        for at in 0..143 {
+            let value = unchanged[at];
+            for other in [value.wrapping_add(1), value.wrapping_sub(1), 0, 255] {
+                let mut held = unchanged;
+                held[at] = other;
+                assert!(items.iter().any(|item| item.held == held));
+            }
+        }
+        for item in &items[1..] {
+            let places = (0..143).filter(|&at| item.held[at] != unchanged[at]);
+            assert_eq!(places.count(), 1, "{}", base.name);
+            assert_eq!(item.record, base.record);
+        }
+    }
+}
+
+#[test]
+fn no_item_comes_twice() {
+    let mut sorted = items();
+    let count = sorted.len();
+    sorted.sort_unstable();
+    sorted.dedup();
+    assert_eq!(sorted.len(), count);
+}
+
+#[test]
+fn the_stream_and_its_answers_are_short() {
+    let items = items();
+    assert!(items.len() * ITEM < 700_000, "{}", items.len());
+    let answers: usize = items.iter().map(|item| line(item).len()).sum();
+    assert!(answers < 700_000, "{answers}");
+}
+
+/// Every answer comes that a single byte can bring about.
+#[test]
+fn the_answers_that_come() {
+    let mut answers: Vec<String> = (items().iter())
+        .map(|item| {
+            line(item)
+                .split(" paid")
+                .next()
+                .unwrap()
+                .trim_end()
+                .to_string()
+        })
+        .collect();
+    answers.sort_unstable();
+    answers.dedup();
+    let expected = [
+        "take finished settle refused 16",
+        "take next settle refused 16",
+        "take refused 11 settle refused 16",
+        "take refused 13 settle refused 16",
+        "take refused 14 settle refused 16",
+        "take refused 15 settle refused 16",
+        "take refused 17 settle refused 17",
+        "take refused 3 settle",
+        "take refused 7 settle refused 16",
+        "take refused 8 settle refused 16",
+        "take refused 9 settle refused 16",
+    ];
+    assert_eq!(answers, expected);
+}
