@@ -6,6 +6,7 @@ pub mod Firsts
 pub mod Sums
 pub mod Orders
 pub mod Once
+pub mod Answers
 pub mod Gathers
 pub mod Fills
 pub mod Tallies

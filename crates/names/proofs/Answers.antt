@@ -1,21 +1,21 @@
--- An answer by its number: refused where that is not 0, and named where it is.
+-- An answer by its number: refused where that is not 0, and named where it is; and what the entries promise of it.
 -- Assumes nothing.
 use Prim.Native.Nat.{ℕ}
-use mathlib.Core.Path.{_≡_, refl, sym, _∙_}
-use mathlib.Core.Bool.{Bool, true, false}
-use mathlib.Core.List.{List}
-use lib.Dec.{eqb}
-use borrow.Author.Tests.{eqb-true, eq-eqb, ne-eqb}
-use Rattle.counting.specs.Choose.{if_then_else_}
+use mathlib.Core.Path.{_≡_, refl, ap, _∙_}
+use mathlib.Core.Bool.{Bool}
+use mathlib.Core.List.{List, [], _∷_}
+use borrow.Author.Tests.{eq-eqb, ne-eqb}
+use Rattle.counting.specs.Choose.{if_then_else_, unlessRefused}
+use Rattle.counting.proofs.Answers.{by-number, by-values}
 use Rattle.hands.specs.Hand.{handRefusal}
 use Rattle.names.specs.declared.FiveAnswer.{FiveAnswer}
 use Rattle.names.specs.declared.BoardAnswer.{BoardAnswer}
 use Rattle.names.specs.declared.PocketAnswer.{PocketAnswer}
 use Rattle.names.specs.declared.LoAnswer.{LoAnswer}
-use Rattle.names.specs.Five.{nameFive, answerFive, fiveNumber}
-use Rattle.names.specs.Board.{nameBoard, answerBoard, boardNumber}
-use Rattle.names.specs.Pocket.{namePocket, answerPocket, pocketNumber}
-use Rattle.names.specs.Lo.{nameLo, answerLo, loNumber}
+use Rattle.names.specs.Five.{nameFive, answerFive, fivePlace, fiveNumber, fiveValues}
+use Rattle.names.specs.Board.{nameBoard, answerBoard, boardPlace, boardNumber, boardValues}
+use Rattle.names.specs.Pocket.{namePocket, answerPocket, pocketPlace, pocketNumber, pocketValues}
+use Rattle.names.specs.Lo.{nameLo, answerLo, loHigh, loNumber, loValues}
 use Rattle.names.specs.Answer.{answer}
 
 module _ {Name Answer : Type 0} (named : Name → Answer) (refused : ℕ → Answer) (name : Name) where
@@ -27,28 +27,34 @@ module _ {Name Answer : Type 0} (named : Name → Answer) (refused : ℕ → Ans
   unfolding answer
   is-named n m e z given same = rw (← e) (simp (eq-eqb n 0 z, same))
 
--- the number of an answer is that of the refusal
-by-number : {Name Answer : Type 0} (named : Name → Answer) (refused : ℕ → Answer) (number : Answer → ℕ) (name : Name) (n : ℕ)
-    → number (named name) ≡ 0 → number (refused n) ≡ n → number (answer named refused n name) ≡ n
+-- what an entry promises of its answer r: which it is, its number, and its values
+abbrev pub Promised : {Answer : Type 0} → (Answer → ℕ) → (Answer → List ℕ) → ℕ → ℕ → Answer → Answer → Type 0
+Promised number values n value a r = (r ≡ a) × ((number r ≡ n) × (values r ≡ unlessRefused n (value ∷ [])))
+
+promised : {Name Answer : Type 0} (named : Name → Answer) (refused : ℕ → Answer) (number : Answer → ℕ) (values : Answer → List ℕ) (n : ℕ) (name : Name) (value : ℕ)
+    → number (named name) ≡ 0 → number (refused n) ≡ n → values (named name) ≡ value ∷ [] → values (refused n) ≡ []
+    → (r : Answer) → r ≡ answer named refused n name → Promised number values n value (answer named refused n name) r
 unfolding answer
-by-number {Name} {Answer} named refused number name n none some = go (eqb n 0) refl
-  where
-    go : (b : Bool) → eqb n 0 ≡ b → number (if b then named name else refused n) ≡ n
-    go true e = none ∙ sym (eqb-true n 0 e)
-    go false e = some
+promised {Name} {Answer} named refused number values n name value none some told untold r e =
+    let by : Bool → Answer = λ b. if b then named name else refused n in
+    (e, (ap number e ∙ by-number n by number none some, ap values e ∙ by-values n by values (value ∷ []) told untold))
 
-pub five-number : (cs : List ℕ) → fiveNumber (answerFive cs) ≡ handRefusal 5 cs
+pub five-promised : (cs : List ℕ) (r : FiveAnswer) → r ≡ answerFive cs → Promised fiveNumber fiveValues (handRefusal 5 cs) (fivePlace (nameFive cs)) (answerFive cs) r
 unfolding answerFive
-five-number cs = by-number FiveAnswer.Name FiveAnswer.Refused fiveNumber (nameFive cs) (handRefusal 5 cs) refl refl
+five-promised cs =
+    promised FiveAnswer.Name FiveAnswer.Refused fiveNumber fiveValues (handRefusal 5 cs) (nameFive cs) (fivePlace (nameFive cs)) refl refl refl refl
 
-pub board-number : (cs : List ℕ) → boardNumber (answerBoard cs) ≡ handRefusal 3 cs
+pub board-promised : (cs : List ℕ) (r : BoardAnswer) → r ≡ answerBoard cs → Promised boardNumber boardValues (handRefusal 3 cs) (boardPlace (nameBoard cs)) (answerBoard cs) r
 unfolding answerBoard
-board-number cs = by-number BoardAnswer.Name BoardAnswer.Refused boardNumber (nameBoard cs) (handRefusal 3 cs) refl refl
+board-promised cs =
+    promised BoardAnswer.Name BoardAnswer.Refused boardNumber boardValues (handRefusal 3 cs) (nameBoard cs) (boardPlace (nameBoard cs)) refl refl refl refl
 
-pub pocket-number : (cs : List ℕ) → pocketNumber (answerPocket cs) ≡ handRefusal 2 cs
+pub pocket-promised : (cs : List ℕ) (r : PocketAnswer) → r ≡ answerPocket cs → Promised pocketNumber pocketValues (handRefusal 2 cs) (pocketPlace (namePocket cs)) (answerPocket cs) r
 unfolding answerPocket
-pocket-number cs = by-number PocketAnswer.Name PocketAnswer.Refused pocketNumber (namePocket cs) (handRefusal 2 cs) refl refl
+pocket-promised cs =
+    promised PocketAnswer.Name PocketAnswer.Refused pocketNumber pocketValues (handRefusal 2 cs) (namePocket cs) (pocketPlace (namePocket cs)) refl refl refl refl
 
-pub lo-number : (cs : List ℕ) → loNumber (answerLo cs) ≡ handRefusal 5 cs
+pub lo-promised : (cs : List ℕ) (r : LoAnswer) → r ≡ answerLo cs → Promised loNumber loValues (handRefusal 5 cs) (loHigh (nameLo cs)) (answerLo cs) r
 unfolding answerLo
-lo-number cs = by-number LoAnswer.Name LoAnswer.Refused loNumber (nameLo cs) (handRefusal 5 cs) refl refl
+lo-promised cs =
+    promised LoAnswer.Name LoAnswer.Refused loNumber loValues (handRefusal 5 cs) (nameLo cs) (loHigh (nameLo cs)) refl refl refl refl

@@ -2,7 +2,7 @@
 -- Assumes nothing.
 use Prim.Native.Nat.{ℕ}
 use mathlib.Core.Bool.{_&&_}
-use mathlib.Core.List.{List}
+use mathlib.Core.List.{List, [], _∷_}
 use lib.Dec.{eqb}
 use Rattle.counting.specs.Choose.{if_then_else_}
 use Rattle.hands.specs.Hand.{ofRank, ofSuit, ofAKind, flush, run, straight, handRefusal}
@@ -45,3 +45,8 @@ boardPlace Other = 6
 abbrev pub boardNumber : BoardAnswer → ℕ
 boardNumber (Name name) = 0
 boardNumber (Refused number) = number
+
+-- and its values: a name's place; a refusal has none
+abbrev pub boardValues : BoardAnswer → List ℕ
+boardValues (Name name) = boardPlace name ∷ []
+boardValues (Refused number) = []

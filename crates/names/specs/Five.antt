@@ -2,7 +2,7 @@
 -- Assumes nothing.
 use Prim.Native.Nat.{ℕ}
 use mathlib.Core.Bool.{_&&_}
-use mathlib.Core.List.{List}
+use mathlib.Core.List.{List, [], _∷_}
 use lib.Dec.{eqb}
 use Rattle.counting.specs.Choose.{if_then_else_}
 use Rattle.cards.specs.Card.{six, jack}
@@ -54,3 +54,8 @@ fivePlace Other = 10
 abbrev pub fiveNumber : FiveAnswer → ℕ
 fiveNumber (Name name) = 0
 fiveNumber (Refused number) = number
+
+-- and its values: a name's place; a refusal has none
+abbrev pub fiveValues : FiveAnswer → List ℕ
+fiveValues (Name name) = fivePlace name ∷ []
+fiveValues (Refused number) = []

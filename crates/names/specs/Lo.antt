@@ -2,7 +2,7 @@
 -- Assumes nothing.
 use Prim.Native.Nat.{ℕ}
 use mathlib.Core.Bool.{Bool, not, _&&_}
-use mathlib.Core.List.{List}
+use mathlib.Core.List.{List, [], _∷_}
 use lib.Dec.{eqb}
 use Rattle.counting.specs.Choose.{if_then_else_}
 use Rattle.hands.specs.Hand.{ofRank, ofSuit, ofAKind, flush, straight, highest, handRefusal}
@@ -36,3 +36,8 @@ loHigh Nothing = 13
 abbrev pub loNumber : LoAnswer → ℕ
 loNumber (Name name) = 0
 loNumber (Refused number) = number
+
+-- and its values: the name as a number; a refusal has none
+abbrev pub loValues : LoAnswer → List ℕ
+loValues (Name name) = loHigh name ∷ []
+loValues (Refused number) = []

@@ -2,7 +2,7 @@
 -- Assumes nothing.
 use Prim.Native.Nat.{ℕ}
 use mathlib.Core.Bool.{Bool, _&&_}
-use mathlib.Core.List.{List}
+use mathlib.Core.List.{List, [], _∷_}
 use lib.Dec.{eqb}
 use Rattle.counting.specs.Choose.{if_then_else_}
 use Rattle.cards.specs.Card.{jack, ace}
@@ -45,3 +45,8 @@ pocketPlace Nothing = 4
 abbrev pub pocketNumber : PocketAnswer → ℕ
 pocketNumber (Name name) = 0
 pocketNumber (Refused number) = number
+
+-- and its values: a name's place; a refusal has none
+abbrev pub pocketValues : PocketAnswer → List ℕ
+pocketValues (Name name) = pocketPlace name ∷ []
+pocketValues (Refused number) = []

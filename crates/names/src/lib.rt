@@ -7,12 +7,13 @@
 //
 // proofs/Orders.antt has the law that the order of the cards plays no part.
 ghost use mathlib.Core.Path.{_≡_};
-ghost use Rattle.counting.specs.Choose.{if_then_else_};
-ghost use Rattle.hands.specs.Hand.{ofRank, ofSuit};
-ghost use Rattle.names.specs.Five.{nameFive, answerFive};
-ghost use Rattle.names.specs.Board.{nameBoard, answerBoard};
-ghost use Rattle.names.specs.Pocket.{aceFace, namePocket, answerPocket};
-ghost use Rattle.names.specs.Lo.{isLo, nameLo, answerLo};
+ghost use mathlib.Core.List.{[], _∷_};
+ghost use Rattle.counting.specs.Choose.{if_then_else_, unlessRefused};
+ghost use Rattle.hands.specs.Hand.{ofRank, ofSuit, handRefusal};
+ghost use Rattle.names.specs.Five.{nameFive, answerFive, fivePlace, fiveNumber, fiveValues};
+ghost use Rattle.names.specs.Board.{nameBoard, answerBoard, boardPlace, boardNumber, boardValues};
+ghost use Rattle.names.specs.Pocket.{aceFace, namePocket, answerPocket, pocketPlace, pocketNumber, pocketValues};
+ghost use Rattle.names.specs.Lo.{isLo, nameLo, answerLo, loHigh, loNumber, loValues};
 
 pub enum FiveName {
     RoyalFlush,
@@ -158,7 +159,9 @@ pub fn five_of(cards: &[u8]) -> FiveName
 }
 
 pub fn name_five(cards: &[u8]) -> FiveAnswer
-    ensures { λ r. ⌜ r ≡ answerFive (now (cards .entry)) ⌝ }
+    ensures answer { λ r. ⌜ r ≡ answerFive (now (cards .entry)) ⌝ }
+    ensures number { λ r. ⌜ fiveNumber r ≡ handRefusal 5 (now (cards .entry)) ⌝ }
+    ensures values { λ r. ⌜ fiveValues r ≡ unlessRefused (handRefusal 5 (now (cards .entry))) (fivePlace (nameFive (now (cards .entry))) ∷ []) ⌝ }
 {
     let refusal = hands::hand_refusal(cards, 5);
     if refusal != 0 {
@@ -223,7 +226,9 @@ pub fn board_of(cards: &[u8]) -> BoardName
 }
 
 pub fn name_board(cards: &[u8]) -> BoardAnswer
-    ensures { λ r. ⌜ r ≡ answerBoard (now (cards .entry)) ⌝ }
+    ensures answer { λ r. ⌜ r ≡ answerBoard (now (cards .entry)) ⌝ }
+    ensures number { λ r. ⌜ boardNumber r ≡ handRefusal 3 (now (cards .entry)) ⌝ }
+    ensures values { λ r. ⌜ boardValues r ≡ unlessRefused (handRefusal 3 (now (cards .entry))) (boardPlace (nameBoard (now (cards .entry))) ∷ []) ⌝ }
 {
     let refusal = hands::hand_refusal(cards, 3);
     if refusal != 0 {
@@ -276,7 +281,9 @@ pub fn pocket_of(cards: &[u8]) -> PocketName
 }
 
 pub fn name_pocket(cards: &[u8]) -> PocketAnswer
-    ensures { λ r. ⌜ r ≡ answerPocket (now (cards .entry)) ⌝ }
+    ensures answer { λ r. ⌜ r ≡ answerPocket (now (cards .entry)) ⌝ }
+    ensures number { λ r. ⌜ pocketNumber r ≡ handRefusal 2 (now (cards .entry)) ⌝ }
+    ensures values { λ r. ⌜ pocketValues r ≡ unlessRefused (handRefusal 2 (now (cards .entry))) (pocketPlace (namePocket (now (cards .entry))) ∷ []) ⌝ }
 {
     let refusal = hands::hand_refusal(cards, 2);
     if refusal != 0 {
@@ -302,7 +309,9 @@ pub fn lo_of(cards: &[u8]) -> LoName
 }
 
 pub fn name_lo(cards: &[u8]) -> LoAnswer
-    ensures { λ r. ⌜ r ≡ answerLo (now (cards .entry)) ⌝ }
+    ensures answer { λ r. ⌜ r ≡ answerLo (now (cards .entry)) ⌝ }
+    ensures number { λ r. ⌜ loNumber r ≡ handRefusal 5 (now (cards .entry)) ⌝ }
+    ensures values { λ r. ⌜ loValues r ≡ unlessRefused (handRefusal 5 (now (cards .entry))) (loHigh (nameLo (now (cards .entry))) ∷ []) ⌝ }
 {
     let refusal = hands::hand_refusal(cards, 5);
     if refusal != 0 {

@@ -13,7 +13,7 @@ hand-number-requires : tie.Need-hand-number-requires
 hand-number-requires c κs = search needs
 
 returns : tie.Need-returns
-returns c = let e = c .before .before .before .name-five .ensures in (simp (c .hand-number .ensures, e) refl, simp (c .before .name-told .ensures, e) refl)
+returns c = let e = c .before .before .before .name-five .ensures .0 in (simp (c .hand-number .ensures, e) refl, simp (c .before .name-told .ensures, e) refl)
 
 pub ripplehatch-name-five-spec : {M : Type 1} → statement M
 ripplehatch-name-five-spec =
