@@ -1,7 +1,7 @@
 -- What a caller may know of a pool that is shared, and which pools are shared.
 -- Assumes nothing.
 use Prim.Native.Nat.{ℕ, _*_, _/_, _≤_, _<_}
-use mathlib.Core.Path.{_≡_, refl, sym}
+use mathlib.Core.Path.{_≡_, refl, ap, _∙_}
 use mathlib.Core.Bool.{Bool, true, false, not, _||_}
 use mathlib.Core.List.{List, [], _∷_, map}
 use native.Mathlib.Omega.{arith}
@@ -12,6 +12,8 @@ use borrow.Author.Tests.{le-leb, lt-leb, leb-true, leb-false, le-ltb, ltb-false,
 use Rattle.counting.specs.Choose.{if_then_else_}
 use Rattle.counting.specs.Count.{total}
 use Rattle.counting.proofs.Tests.{or-false, neither}
+use Rattle.counting.proofs.Answers.{by-number}
+use Rattle.pool.specs.declared.Shared.{Shared}
 use Rattle.pool.specs.declared.Shared.the-variants.{Full, Cut, Refused}
 use Rattle.pool.specs.Pool.{shareOf, sharesOf, winsFit, shareRefusal, shareAnswer, shareList, numberOf}
 use Rattle.pool.specs.Shares.{Shares}
@@ -94,14 +96,15 @@ module _ (wins : List ℕ) (maximum room : ℕ) where
   unfolding shareAnswer
   answer-cut e h = simp (e, lt-leb _ _ h)
 
+  shared-number : (full : Bool) → numberOf (if full then Full else Cut) ≡ 0
+  shared-number true = refl
+  shared-number false = refl
+
   pub answer-number : numberOf (shareAnswer wins maximum room) ≡ shareRefusal wins maximum room
   unfolding shareAnswer
-  answer-number = go (eqb (shareRefusal wins maximum room) 0) (leb (total wins) maximum) (shareRefusal wins maximum room) refl
-    where
-      go : (none full : Bool) (number : ℕ) → eqb number 0 ≡ none → numberOf (if not none then Refused number else if full then Full else Cut) ≡ number
-      go false full number e = refl
-      go true true number e = sym (eqb-true _ _ e)
-      go true false number e = sym (eqb-true _ _ e)
+  answer-number =
+      let number = shareRefusal wins maximum room in
+      by-number number (λ none. if not none then Refused number else if leb (total wins) maximum then Full else Cut) numberOf (shared-number (leb (total wins) maximum)) refl
 
 -- ---- the lent list
 
@@ -113,3 +116,8 @@ module _ (wins : List ℕ) (maximum : ℕ) (lent : List ℕ) where
   pub refused : (shareRefusal wins maximum (length lent) ≡ 0 → ⊥) → shareList wins maximum lent ≡ lent
   unfolding shareList
   refused h = simp (ne-eqb _ _ h)
+
+  -- what is promised of an answer and of the list at the end
+  pub promised : (r : Shared) (new : List ℕ) → r ≡ shareAnswer wins maximum (length lent) → new ≡ shareList wins maximum lent
+      → (r ≡ shareAnswer wins maximum (length lent)) × ((numberOf r ≡ shareRefusal wins maximum (length lent)) × (new ≡ shareList wins maximum lent))
+  promised r new e q = (e, (ap numberOf e ∙ answer-number wins maximum (length lent), q))

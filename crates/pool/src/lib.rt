@@ -9,7 +9,7 @@ ghost use mathlib.Core.List.{map};
 ghost use Prim.Native.Nat.{_*_, _≤_};
 ghost use lib.ListN.{length};
 ghost use Rattle.counting.specs.Count.{total};
-ghost use Rattle.pool.specs.Pool.{shareOf, winsFit, shareRefusal, shareAnswer, shareList, poolOf};
+ghost use Rattle.pool.specs.Pool.{shareOf, winsFit, shareRefusal, shareAnswer, shareList, numberOf, poolOf};
 
 // The answer of share.
 pub enum Shared {
@@ -104,6 +104,7 @@ fn fill(wins: &[u64], maximum: u64, pool: u64, shares: &mut [u64])
 // Shares the maximum among up to seven wins, and writes each win's share at its place of an equally long list.
 pub fn share(wins: &[u64], maximum: u64, shares: &mut [u64]) -> Shared
     ensures answer { λ r. ⌜ r ≡ shareAnswer (now (wins .entry)) maximum (length (now (shares .entry))) ⌝ }
+    ensures number { λ r. ⌜ numberOf r ≡ shareRefusal (now (wins .entry)) maximum (length (now (shares .entry))) ⌝ }
     ensures list { λ r. ⌜ now (shares .exit) ≡ shareList (now (wins .entry)) maximum (now (shares .entry)) ⌝ }
 {
     let refusal = share_refusal(wins, maximum, shares.len());

@@ -3,7 +3,7 @@ use native.Mathlib.Omega.{arith}
 use borrow.Author.Needs.{needs}
 use Rattle.pool.specs.Pool.{sharesOf}
 use Rattle.pool.proofs.Laws.{fit-total}
-use Rattle.pool.proofs.Shares.{kept, answer-refused, answer-full, answer-cut, accepted, refused}
+use Rattle.pool.proofs.Shares.{kept, answer-refused, answer-full, answer-cut, accepted, refused, promised}
 use Rattle.pool.proofs.share.Statement.{statement}
 use Rattle.pool.proofs.share.Tie as tie
 
@@ -13,7 +13,7 @@ share-refusal-requires c κs = search needs
 returns : tie.Need-returns
 returns c =
     let h = rw (c .before .share-refusal .ensures) at (c .if1 .taken) in
-    (rw (c .before .share-refusal .ensures) (sym (answer-refused _ _ _ h)), sym (refused _ _ _ h))
+    promised _ _ _ _ _ (rw (c .before .share-refusal .ensures) (sym (answer-refused _ _ _ h))) (sym (refused _ _ _ h))
 
 total-of-requires : tie.Need-total-of-requires
 total-of-requires c κs =
@@ -34,7 +34,7 @@ returns-2 c =
     let f = c .before .before .before in
     let t = f .before .before in
     let none = rw (t .before .before .share-refusal .ensures) at (t .before .if1 .left) in
-    (sym (answer-full _ _ _ none (rw (t .total-of .ensures) at (c .if2 .taken))), rw (t .total-of .ensures) at (f .fill .ensures) ∙ sym (accepted _ _ _ none))
+    promised _ _ _ _ _ (sym (answer-full _ _ _ none (rw (t .total-of .ensures) at (c .if2 .taken)))) (rw (t .total-of .ensures) at (f .fill .ensures) ∙ sym (accepted _ _ _ none))
 
 same-length-2 : tie.Need-same-length-2
 same-length-2 c = search needs
@@ -45,7 +45,7 @@ returns-3 c =
     let f = c .before .before .before in
     let t = f .before .before in
     let none = rw (t .before .before .share-refusal .ensures) at (t .before .if1 .left) in
-    (sym (answer-cut _ _ _ none (rw (t .total-of .ensures) at (c .if2 .left))), rw (t .total-of .ensures) at (f .fill .ensures) ∙ sym (accepted _ _ _ none))
+    promised _ _ _ _ _ (sym (answer-cut _ _ _ none (rw (t .total-of .ensures) at (c .if2 .left)))) (rw (t .total-of .ensures) at (f .fill .ensures) ∙ sym (accepted _ _ _ none))
 
 pub share-spec : {M : Type 1} → statement M
 share-spec =

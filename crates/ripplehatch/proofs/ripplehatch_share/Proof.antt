@@ -13,7 +13,7 @@ same-length : tie.Need-same-length
 same-length c = search needs
 
 returns : tie.Need-returns
-returns c = let e = c .before .before .before .share .ensures in (simp (c .share-number .ensures, e .0) refl, e .1)
+returns c = let e = c .before .before .before .share .ensures in (simp (c .share-number .ensures, e .0) refl, e .1 .1)
 
 pub ripplehatch-share-spec : {M : Type 1} → statement M
 ripplehatch-share-spec =
