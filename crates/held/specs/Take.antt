@@ -7,7 +7,7 @@ use mathlib.Core.List.{List}
 use Rattle.counting.specs.Choose.{if_then_else_}
 use Rattle.round.specs.declared.Round.{Round}
 use Rattle.round.specs.declared.Step.{Step}
-use Rattle.round.specs.Feed.{refused, feed}
+use Rattle.round.specs.Feed.{refusal, refused, feed}
 use Rattle.led.specs.Led.{Led}
 use Rattle.led.specs.Held.{isHeld}
 
@@ -17,7 +17,12 @@ pub record Decides (r : Round) (answer : Bool) : Type 0 where
   pub led : answer ≡ true → Led r
   pub held : Led r → answer ≡ true
 
--- One record: 17 where the held round is neither the fresh one nor led to by accepted records, then 2, then the rest.
+-- The number of the refusal, 0 where there is none. One record: 17 where the held round is neither the fresh one nor led to by accepted
+-- records, then 2, then the rest.
+unfoldable pub takeRefusal : Round → List ℕ → ℕ
+takeRefusal r b = if not (isHeld r) then 17 else refusal r b
+
+-- what is answered: a refusal beside the same round, or what the round answers to the record
 unfoldable pub takes : Round → List ℕ → Step
 takes r b = if not (isHeld r) then refused 17 r else feed r b
 

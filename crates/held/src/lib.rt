@@ -7,8 +7,9 @@ use records::any_plays;
 use round::Round;
 use round::Step;
 ghost use mathlib.Core.Path.{_≡_};
+ghost use Rattle.round.specs.Feed.{numberOf};
 ghost use Rattle.led.specs.Held.{opened, deckAfterSeats};
-ghost use Rattle.held.specs.Take.{Decides, Taken};
+ghost use Rattle.held.specs.Take.{Decides, takeRefusal, Taken};
 
 // How many streets have opened: none before the whole deck was read.
 fn opened_of(round: Round) -> u8
@@ -47,7 +48,8 @@ pub fn is_held(round: Round) -> bool
 // Takes a record: 17 where the round may not be held, 2 where the record isn't 16 bytes, then the rest. A refused record hands back the
 // same round.
 pub fn take(round: Round, bytes: &[u8]) -> Step
-    ensures { λ r. ⌜ Taken round (now (bytes .entry)) r ⌝ }
+    ensures taken { λ r. ⌜ Taken round (now (bytes .entry)) r ⌝ }
+    ensures number { λ r. ⌜ numberOf (r .answer) ≡ takeRefusal round (now (bytes .entry)) ⌝ }
 {
     if !is_held(round) {
         return round.refuse(17);

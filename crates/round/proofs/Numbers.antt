@@ -1,13 +1,14 @@
 -- What feeding answers, by the record's refusal: the answer's number is the refusal's, and with none the round is the next one.
 -- Assumes nothing.
 use Prim.Native.Nat.{ℕ}
-use mathlib.Core.Path.{_≡_, refl}
+use mathlib.Core.Path.{_≡_, refl, ap, _∙_}
 use mathlib.Core.Bool.{Bool, true, false, not}
 use mathlib.Core.List.{List}
-use lib.Dec.{eqb}
-use borrow.Author.Tests.{eqb-true, eq-eqb}
+use borrow.Author.Tests.{eq-eqb}
 use Rattle.counting.specs.Choose.{if_then_else_}
+use Rattle.counting.proofs.Answers.{by-number}
 use Rattle.round.specs.declared.Round.{Round}
+use Rattle.round.specs.declared.Step.{Step}
 use Rattle.round.specs.declared.Answer.the-variants.{Next, Finished}
 use Rattle.round.specs.Order.{isFinished}
 use Rattle.round.specs.Feed.{refusal, next, refused, accepted, feed, numberOf}
@@ -18,11 +19,12 @@ on-or-finished false = refl
 
 pub feed-number : (r : Round) (b : List ℕ) → numberOf (feed r b .answer) ≡ refusal r b
 unfolding feed
-feed-number r b = go (eqb (refusal r b) 0) refl
-  where
-    go : (t : Bool) → eqb (refusal r b) 0 ≡ t → numberOf ((if not t then refused (refusal r b) r else accepted (next r b)) .answer) ≡ refusal r b
-    go true e = rw (eqb-true (refusal r b) 0 e) (on-or-finished (isFinished (next r b)))
-    go false e = refl
+feed-number r b =
+    by-number (refusal r b) (λ none. if not none then refused (refusal r b) r else accepted (next r b)) (λ s. numberOf (s .answer)) (on-or-finished (isFinished (next r b))) refl
+
+-- what is promised of an answer
+pub promised : (r : Round) (b : List ℕ) (s : Step) → s ≡ feed r b → (s ≡ feed r b) × (numberOf (s .answer) ≡ refusal r b)
+promised r b s e = (e, ap (λ s. numberOf (s .answer)) e ∙ feed-number r b)
 
 pub feed-next : (r : Round) (b : List ℕ) → refusal r b ≡ 0 → feed r b .round ≡ next r b
 unfolding feed

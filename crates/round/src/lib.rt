@@ -13,7 +13,7 @@ use seating::table_of;
 use seating::table_refusal;
 ghost use mathlib.Core.Path.{_≡_};
 ghost use Rattle.round.specs.Order.{freshRound, isPlaying, isFinished, mayCome};
-ghost use Rattle.round.specs.Feed.{kindRefusal, refusal, next, refused, accepted, feed};
+ghost use Rattle.round.specs.Feed.{kindRefusal, refusal, next, refused, accepted, feed, numberOf};
 
 pub struct Round {
     pub table: Table,
@@ -176,7 +176,8 @@ impl Round {
 
     // Takes a record: the next round, the finished round, or a refusal.
     pub fn feed(mut self, bytes: &[u8]) -> Step
-        ensures { λ r. ⌜ r ≡ feed self (now (bytes .entry)) ⌝ }
+        ensures answer { λ r. ⌜ r ≡ feed self (now (bytes .entry)) ⌝ }
+        ensures number { λ r. ⌜ numberOf (r .answer) ≡ refusal self (now (bytes .entry)) ⌝ }
     {
         let number = self.refusal(bytes);
         if number != 0 {
