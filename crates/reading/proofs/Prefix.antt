@@ -9,7 +9,7 @@ use native.Mathlib.Omega.{arith}
 use lib.Dec.{eqb, ltb, leb}
 use lib.ListN.{length, take, drop}
 use lib.Seq.{take-all, length-take-le}
-use borrow.Author.Tests.{ne-eqb, le-ltb, leb-true, leb-false}
+use borrow.Author.Tests.{ne-eqb, le-ltb, ltb-false, leb-true, leb-false, eqb-false}
 use Rattle.counting.specs.Choose.{if_then_else_}
 use Rattle.records.specs.Bytes.{areBytes}
 use Rattle.round.specs.Order.{freshRound}
@@ -19,7 +19,7 @@ use Rattle.led.proofs.Counts.{at-most-33}
 use Rattle.reading.specs.declared.Reading.{Reading}
 use Rattle.reading.specs.File.{fileRecords, stop, readRecords, readFile, heldRecords, orTooMany, readPrefix}
 use Rattle.reading.proofs.Records.{records-count, first-bytes, records-bytes, records-split}
-use Rattle.reading.proofs.Readings.{records-fit, records-refused, records-lead}
+use Rattle.reading.proofs.Readings.{records-read, records-fit, records-refused, records-lead}
 
 -- ---- one too many
 
@@ -50,6 +50,28 @@ prefix-held first after = fits-held (readPrefix first after .round) (go (eqb ((l
     go : (t : Bool) → Fits ((if not t then stop freshRound 2 ((length first + after) / 16) else orTooMany more (readRecords (fileRecords first))) .round)
     go true = rw (too-many-round more (readRecords (fileRecords first))) (records-fit (fileRecords first))
     go false = fresh-fits
+
+-- ---- where reading ends with no refusal
+
+-- no record comes after those that are held, so all were read
+pub prefix-count : (first : List ℕ) (after : ℕ) → readPrefix first after .number ≡ 0 → readPrefix first after .place ≡ (length first + after) / 16
+unfolding readPrefix
+prefix-count first after = go (eqb ((length first + after) % 16) 0) (eqb (w .number) 0) refl (ltb (length first / 16) whole) refl
+  where
+    w : Reading
+    w = readRecords (fileRecords first)
+
+    whole : ℕ
+    whole = (length first + after) / 16
+
+    go : (even none : Bool) → eqb (w .number) 0 ≡ none → (more : Bool) → ltb (length first / 16) whole ≡ more
+        → let read = if not even then stop freshRound 2 whole else if none && more then stop (w .round) 3 (w .place) else w in
+        read .number ≡ 0 → read .place ≡ whole
+    go false none e more q z = absurd (omega arith)
+    go true false e more q z = absurd (eqb-false (w .number) 0 e z)
+    go true true e true q z = absurd (omega arith)
+    go true true e false q z =
+        omega (arith, records-read (fileRecords first) z, records-count first, ltb-false (length first / 16) whole q)
 
 -- ---- the whole file
 

@@ -2,10 +2,10 @@
 -- Assumes nothing.
 use Prim.Native.Nat.{ℕ}
 use mathlib.Core.Bool.{not}
-use mathlib.Core.List.{List}
+use mathlib.Core.List.{List, [], _∷_}
 use lib.Dec.{eqb}
 use lib.ListN.{length}
-use Rattle.counting.specs.Choose.{if_then_else_}
+use Rattle.counting.specs.Choose.{if_then_else_, unlessRefused}
 use Rattle.round.specs.declared.Round.{Round}
 use Rattle.round.specs.Order.{isFinished}
 use Rattle.led.specs.Held.{isHeld}
@@ -43,7 +43,37 @@ abbrev pub settleNumber : Settlement → ℕ
 settleNumber (Paid full paid) = 0
 settleNumber (Refused number) = number
 
+-- and its values: the pool in dollars, full and as paid; a refusal has none
+abbrev pub settlePool : Settlement → List ℕ
+settlePool (Paid full paid) = full ∷ paid ∷ []
+settlePool (Refused number) = []
+
+-- those of a round's pool
+abbrev pub fullAndPaid : Round → List ℕ
+fullAndPaid r = pool r .full ∷ pool r .paid ∷ []
+
 -- ---- a file
+
+-- The number of the refusal, 0 where there is none. A file is checked for 1, then 2, then record by record; 16: the round isn't finished.
+unfoldable pub readRefusal : Reading → ℕ → ℕ
+readRefusal w room =
+    if not (eqb room resultsLong) then 1
+    else if not (eqb (w .number) 0) then w .number
+    else if not (isFinished (w .round)) then 16
+    else 0
+
+-- The place of the refusal, 0 where there is none: for 1, place 0; then where reading ends, which is the place of the first faulty record, from 0,
+-- and for 2 the count of whole records; for 16 that count.
+unfoldable pub readPlace : Reading → ℕ → ℕ → ℕ
+readPlace w count room =
+    if not (eqb room resultsLong) then 0
+    else if not (eqb (w .number) 0) then w .place
+    else if not (isFinished (w .round)) then count
+    else 0
+
+-- the pool in dollars, full and as paid, where there is no refusal
+abbrev pub readPool : Reading → ℕ → List ℕ
+readPool w room = unlessRefused (readRefusal w room) (fullAndPaid (w .round))
 
 -- the answer for a round, at a place of a file
 abbrev pub atPlace : ℕ → Settlement → FileSettlement
@@ -74,11 +104,17 @@ prefixAnswer first after room = readAnswer (readPrefix first after) room
 abbrev pub prefixList : List ℕ → ℕ → List ℕ → List ℕ
 prefixList first after lent = readList (readPrefix first after) lent
 
--- this paper's number and place for each answer
+-- this paper's number for each answer: the refusal's, and 0 where the round is settled
 abbrev pub fileNumber : FileSettlement → ℕ
 fileNumber (PaidFile full paid) = 0
 fileNumber (RefusedFile number place) = number
 
+-- and its values: a refusal's place,
 abbrev pub filePlace : FileSettlement → ℕ
 filePlace (PaidFile full paid) = 0
 filePlace (RefusedFile number place) = place
+
+-- and the pool in dollars, full and as paid, of a settled round
+abbrev pub filePool : FileSettlement → List ℕ
+filePool (PaidFile full paid) = full ∷ paid ∷ []
+filePool (RefusedFile number place) = []

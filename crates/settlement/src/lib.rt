@@ -12,11 +12,14 @@ use results::results_of;
 use round::Round;
 ghost use mathlib.Core.Path.{_≡_};
 ghost use mathlib.Core.Bool.{true};
+ghost use Prim.Native.Nat.{_+_, _/_};
 ghost use lib.ListN.{length};
+ghost use Rattle.counting.specs.Choose.{unlessRefused};
 ghost use Rattle.led.specs.Held.{isHeld};
 ghost use Rattle.held.specs.Take.{Decides};
+ghost use Rattle.reading.specs.File.{readFile, readPrefix};
 ghost use Rattle.results.specs.Results.{resultsLong};
-ghost use Rattle.settlement.specs.Settle.{settleAnswer, settleList, atPlace, readAnswer, readList, fileAnswer, fileList, prefixAnswer, prefixList};
+ghost use Rattle.settlement.specs.Settle.{settleRefusal, settleAnswer, settleList, settleNumber, settlePool, fullAndPaid, readRefusal, readPlace, readPool, atPlace, readAnswer, readList, fileAnswer, fileList, prefixAnswer, prefixList, fileNumber, filePlace, filePool};
 
 // The answer to a held round.
 pub enum Settlement {
@@ -66,6 +69,8 @@ fn settle_held(round: Round, results: &mut [u64]) -> Settlement
 // Settles a round that a pad holds: 17, 1, 16.
 pub fn settle(round: Round, results: &mut [u64]) -> Settlement
     ensures answer { λ r. ⌜ r ≡ settleAnswer round (length (now (results .entry))) ⌝ }
+    ensures number { λ r. ⌜ settleNumber r ≡ settleRefusal round (length (now (results .entry))) ⌝ }
+    ensures pool { λ r. ⌜ settlePool r ≡ unlessRefused (settleRefusal round (length (now (results .entry)))) (fullAndPaid round) ⌝ }
     ensures list { λ r. ⌜ now (results .exit) ≡ settleList round (now (results .entry)) ⌝ }
     ensures held { λ r. ⌜ Decides round (isHeld round) ⌝ }
 {
@@ -111,6 +116,9 @@ fn settle_reading(reading: Reading, results: &mut [u64]) -> FileSettlement
 // Settles a file: 1, 2, then record by record, 16.
 pub fn settle_file(file: &[u8], results: &mut [u64]) -> FileSettlement
     ensures answer { λ r. ⌜ r ≡ fileAnswer (now (file .entry)) (length (now (results .entry))) ⌝ }
+    ensures number { λ r. ⌜ fileNumber r ≡ readRefusal (readFile (now (file .entry))) (length (now (results .entry))) ⌝ }
+    ensures place { λ r. ⌜ filePlace r ≡ readPlace (readFile (now (file .entry))) (length (now (file .entry)) / 16) (length (now (results .entry))) ⌝ }
+    ensures pool { λ r. ⌜ filePool r ≡ readPool (readFile (now (file .entry))) (length (now (results .entry))) ⌝ }
     ensures list { λ r. ⌜ now (results .exit) ≡ fileList (now (file .entry)) (now (results .entry)) ⌝ }
 {
     settle_reading(read_file(file), results)
@@ -120,6 +128,9 @@ pub fn settle_file(file: &[u8], results: &mut [u64]) -> FileSettlement
 // the answer is that of the whole file.
 pub fn settle_prefix(first: &[u8], after: usize, results: &mut [u64]) -> FileSettlement
     ensures answer { λ r. ⌜ r ≡ prefixAnswer (now (first .entry)) after (length (now (results .entry))) ⌝ }
+    ensures number { λ r. ⌜ fileNumber r ≡ readRefusal (readPrefix (now (first .entry)) after) (length (now (results .entry))) ⌝ }
+    ensures place { λ r. ⌜ filePlace r ≡ readPlace (readPrefix (now (first .entry)) after) ((length (now (first .entry)) + after) / 16) (length (now (results .entry))) ⌝ }
+    ensures pool { λ r. ⌜ filePool r ≡ readPool (readPrefix (now (first .entry)) after) (length (now (results .entry))) ⌝ }
     ensures list { λ r. ⌜ now (results .exit) ≡ prefixList (now (first .entry)) after (now (results .entry)) ⌝ }
 {
     settle_reading(read_prefix(first, after), results)

@@ -22,7 +22,7 @@ same-length : tie.Need-same-length
 same-length c = search needs
 
 returns : tie.Need-returns
-returns c = let e = c .before .before .before .before .before .before .before .before .before .settle-file .ensures in (simp (c .number-of .ensures, e .0) refl, (e .1, (simp (c .before .before .before .before .before .full-told .ensures, e .0) refl, (simp (c .before .before .before .paid-told .ensures, e .0) refl, simp (c .before .place-told .ensures, e .0) refl))))
+returns c = let e = c .before .before .before .before .before .before .before .before .before .settle-file .ensures in (simp (c .number-of .ensures, e .0) refl, (e .1 .1 .1 .1, (simp (c .before .before .before .before .before .full-told .ensures, e .0) refl, (simp (c .before .before .before .paid-told .ensures, e .0) refl, simp (c .before .place-told .ensures, e .0) refl))))
 
 pub ripplehatch-settle-file-spec : {M : Type 1} → statement M
 ripplehatch-settle-file-spec =
