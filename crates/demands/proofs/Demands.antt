@@ -5,8 +5,8 @@
 -- `settleList` are `settlement::settle`'s, `fileAnswer` and `fileList` `settle_file`'s, `prefixAnswer` and `prefixList` `settle_prefix`'s,
 -- `refusedPart` `reading::refused_part`'s, `shareAnswer` and `shareList` `pool::share`'s.
 -- Assumes nothing.
-use Prim.Native.Nat.{ℕ, _*_, _-_, _%_}
-use mathlib.Core.Path.{_≡_, refl, sym, ap, subst, _∙_}
+use Prim.Native.Nat.{ℕ, _*_, _-_, _%_, _≤_}
+use mathlib.Core.Path.{_≡_, refl, sym, ap, _∙_}
 use mathlib.Core.Bool.{true}
 use mathlib.Core.List.{List}
 use lib.ListN.{length, take, drop}
@@ -19,7 +19,8 @@ use Rattle.round.specs.declared.Step.{Step}
 use Rattle.round.specs.Order.{freshRound, isFinished}
 use Rattle.round.specs.Feed.{numberOf}
 use Rattle.led.specs.Led.{Leads}
-use Rattle.held.specs.Take.{takes}
+use Rattle.led.specs.Held.{isHeld}
+use Rattle.held.specs.Take.{Decides, takes}
 use Rattle.pool.specs.declared.Shared.{Shared}
 use Rattle.pool.specs.Pool.{shareAnswer, shareList}
 use Rattle.pool.specs.Pool.{numberOf as shareNumber}
@@ -28,15 +29,16 @@ use Rattle.amounts.specs.Base.{handOf, win, wins}
 use Rattle.results.specs.Results.{pool, resultsLong, results}
 use Rattle.reading.specs.File.{fileRecords, stop, readBy, readFile, heldRecords, readPrefix, refusedPart}
 use Rattle.reading.specs.Joined.{joined}
-use Rattle.reading.proofs.Readings.{read-leads, leads-read, read-by-same, joined-read}
-use Rattle.reading.proofs.Prefix.{prefix-whole}
+use Rattle.reading.proofs.Readings.{leads-read, read-by-same, read-number, read-held, read-leads, joined-read}
+use Rattle.reading.proofs.Prefix.{prefix-held, prefix-number, prefix-ends, prefix-none, prefix-whole}
 use Rattle.pooling.proofs.Shared.{pool-totals}
 use Rattle.settlement.specs.declared.Settlement.{Settlement}
+use Rattle.settlement.specs.declared.Settlement.the-variants.{Paid}
 use Rattle.settlement.specs.declared.FileSettlement.{FileSettlement}
-use Rattle.settlement.specs.declared.FileSettlement.the-variants.{Paid}
+use Rattle.settlement.specs.declared.FileSettlement.the-variants.{Paid as PaidFile}
 use Rattle.settlement.specs.Settle.{settleAnswer, settleList, settleNumber, readAnswer, readList, fileAnswer, fileList, prefixAnswer, prefixList, fileNumber, filePlace}
 use Rattle.demands.specs.Floor.{floorOf, paidOf, Demand3}
-use Rattle.demands.proofs.Settled.{settle-left, read-left, read-done, read-paid, refused-place}
+use Rattle.demands.proofs.Settled.{settle-left, settled, settle-paid, read-left, read-done, read-paid, read-most, refused-place}
 use Rattle.demands.proofs.Taken.{take-left, take-feeds}
 use Rattle.demands.proofs.Third.{demand-3}
 use Rattle.demands.proofs.Whole.{wholeRound, whole-led, whole-finished, whole-pool, floor-reached}
@@ -93,36 +95,77 @@ pub demand-2-pool : (won : List ℕ) (most : ℕ) (lent : List ℕ) (a b : Share
     → (b ≡ shareAnswer won most (length lent)) × (y ≡ shareList won most lent) → (a ≡ b) × (x ≡ y)
 demand-2-pool won most lent = both-once (shareAnswer won most (length lent)) (shareList won most lent)
 
--- A file is accepted where its records, each accepted, lead to a finished round, and no other is. Its answer is that round's pool, and its list
--- that round's results.
-pub record Accepted (l lent : List ℕ) : Type 0 where
-  pub round : Round
-  pub records : Leads freshRound (fileRecords l) round
+-- An accepted settlement: records, each accepted, lead to a finished round. The answer is that round's pool, and the list that round's results.
+pub record Accepted {A : Type 0} (paid : ℕ → ℕ → A) (answer : A) (list : List ℕ) (records : List (List ℕ)) (round : Round) : Type 0 where
+  pub leads : Leads freshRound records round
   pub finished : isFinished round ≡ true
   -- the pool is not refused: it is the round's wins, shared
   pub totals : (pool round .number ≡ 0) × (pool round .full ≡ total (wins round)) × (pool round .paid ≡ total (pool round .shares))
-  pub answer : fileAnswer l (length lent) ≡ Paid (pool round .full) (pool round .paid)
-  pub list : fileList l lent ≡ results round
+  pub answered : answer ≡ paid (pool round .full) (pool round .paid)
+  pub listed : list ≡ results round
 
-pub accepted-led : (l lent : List ℕ) → areBytes l ≡ true → fileNumber (fileAnswer l (length lent)) ≡ 0 → Accepted l lent
-accepted-led l lent h z =
+accepts : {A : Type 0} (paid : ℕ → ℕ → A) (answer : A) (list : List ℕ) (records : List (List ℕ)) (r : Round) → Leads freshRound records r → isFinished r ≡ true
+    → (answer ≡ paid (pool r .full) (pool r .paid)) × (list ≡ results r) → Accepted paid answer list records r
+accepts paid answer list records r leads finished p =
+    record { leads = leads; finished = finished; totals = pool-totals r (records, leads); answered = p .0; listed = p .1 }
+
+-- of a held round, by records that lead to it; of a file, and of one of which the first bytes are held, by its own
+abbrev pub AcceptedRound : Round → List ℕ → List (List ℕ) → Type 0
+AcceptedRound r lent records = Accepted Paid (settleAnswer r (length lent)) (settleList r lent) records r
+
+abbrev pub AcceptedFile : List ℕ → List ℕ → Round → Type 0
+AcceptedFile l lent r = Accepted PaidFile (fileAnswer l (length lent)) (fileList l lent) (fileRecords l) r
+
+abbrev pub AcceptedPrefix : List ℕ → ℕ → List ℕ → Round → Type 0
+AcceptedPrefix first after lent r = Accepted PaidFile (prefixAnswer first after (length lent)) (prefixList first after lent) (fileRecords first) r
+
+-- What is not refused is accepted: a held round (that its test decides which rounds are led is `settle`'s third promise),
+pub accepted-led-round : (r : Round) (lent : List ℕ) → Decides r (isHeld r) → settleNumber (settleAnswer r (length lent)) ≡ 0
+    → (records : List (List ℕ)) × AcceptedRound r lent records
+accepted-led-round r lent decides z =
+    let d = settled r lent z in
+    let led = decides .led (d .held) in
+    (led .0, accepts Paid _ _ (led .0) r (led .1) (d .finished) (d .answer, d .list))
+
+-- a file,
+pub accepted-led-file : (l lent : List ℕ) → areBytes l ≡ true → fileNumber (fileAnswer l (length lent)) ≡ 0 → (r : Round) × AcceptedFile l lent r
+accepted-led-file l lent h z =
     let d = read-done (readFile l) lent z in
-    let records = read-leads l h (d .0) in
-    record {
-      round = readFile l .round;
-      records = records;
-      finished = d .1 .finished;
-      totals = pool-totals (readFile l .round) (fileRecords l, records);
-      answer = d .2;
-      list = d .3;
-    }
+    (readFile l .round, accepts PaidFile _ _ (fileRecords l) (readFile l .round) (read-leads l h (d .0)) (d .1 .finished) (d .2, d .3))
 
-pub led-accepted : (l lent : List ℕ) (r : Round) → length l % 16 ≡ 0 → length lent ≡ resultsLong → Leads freshRound (fileRecords l) r → isFinished r ≡ true
-    → (fileAnswer l (length lent) ≡ Paid (pool r .full) (pool r .paid)) × (fileList l lent ≡ results r)
+-- and a file of which the first bytes are held: none comes after them.
+pub accepted-led-prefix : (first : List ℕ) (after : ℕ) (lent : List ℕ) → areBytes first ≡ true → fileNumber (prefixAnswer first after (length lent)) ≡ 0
+    → (after ≡ 0) × ((r : Round) × AcceptedPrefix first after lent r)
+accepted-led-prefix first after lent h z =
+    let none = prefix-ends first after (read-done (readPrefix first after) lent z .0) in
+    (none, rw (none, prefix-none first) (accepted-led-file first lent h (rw (none, prefix-none first) at z)))
+
+-- And what records, each accepted, lead to is not refused, where it is finished and the list is 28 long: a held round,
+pub led-accepted-round : (r : Round) (lent : List ℕ) (records : List (List ℕ)) → length lent ≡ resultsLong → Leads freshRound records r → isFinished r ≡ true
+    → AcceptedRound r lent records
+led-accepted-round r lent records room leads finished =
+    accepts Paid _ _ records r leads finished (settle-paid r lent (records, leads) room finished)
+
+-- a file,
+pub led-accepted-file : (l lent : List ℕ) (r : Round) → length l % 16 ≡ 0 → length lent ≡ resultsLong → Leads freshRound (fileRecords l) r → isFinished r ≡ true
+    → AcceptedFile l lent r
 unfolding readFile
-led-accepted l lent r even room records finished =
-    let read : readFile l ≡ stop r 0 (length (fileRecords l)) = simp even (leads-read (fileRecords l) r records) in
-    rw read (read-paid (stop r 0 (length (fileRecords l))) lent (fileRecords l, records) refl room finished)
+led-accepted-file l lent r even room leads finished =
+    let read : readFile l ≡ stop r 0 (length (fileRecords l)) = simp even (leads-read (fileRecords l) r leads) in
+    let p = read-paid (stop r 0 (length (fileRecords l))) lent (fileRecords l, leads) refl room finished in
+    accepts PaidFile _ _ (fileRecords l) r leads finished (rw read p)
+
+-- and a file of which all bytes are held.
+pub led-accepted-prefix : (first lent : List ℕ) (r : Round) → length first % 16 ≡ 0 → length lent ≡ resultsLong → Leads freshRound (fileRecords first) r → isFinished r ≡ true
+    → AcceptedPrefix first 0 lent r
+led-accepted-prefix first lent r even room leads finished = rw (prefix-none first) (led-accepted-file first lent r even room leads finished)
+
+-- A file is never answered 17, nor by more: its number is at most 16.
+pub at-most-16-file : (l lent : List ℕ) → fileNumber (fileAnswer l (length lent)) ≤ 16
+at-most-16-file l lent = read-most (readFile l) lent (read-held l) (read-number l)
+
+pub at-most-16-prefix : (first : List ℕ) (after : ℕ) (lent : List ℕ) → fileNumber (prefixAnswer first after (length lent)) ≤ 16
+at-most-16-prefix first after lent = read-most (readPrefix first after) lent (prefix-held first after) (prefix-number first after)
 
 -- Settling a file agrees with feeding its records one at a time, to the entry that takes a record, from the fresh round, stopping at the first
 -- refusal, and else settling the held round.
@@ -145,20 +188,33 @@ pub prefix-is-file : (l lent : List ℕ) → areBytes l ≡ true
     × (prefixList (take (16 * heldRecords) l) (length l - 16 * heldRecords) lent ≡ fileList l lent)
 prefix-is-file l lent h = (ap (λ w. readAnswer w (length lent)) (prefix-whole l h), ap (λ w. readList w lent) (prefix-whole l h))
 
--- ==== Demand 3. Of every accepted file, and of the amounts in its results list.
+-- ==== Demand 3. Of every accepted settlement, and of the amounts in the list that was given:
 
+accepted-3 : {A : Type 0} (paid : ℕ → ℕ → A) (answer : A) (list : List ℕ) (records : List (List ℕ)) (r : Round) → Accepted paid answer list records r → Demand3 r list
+accepted-3 paid answer list records r a = rw (a .listed) (demand-3 r (records, a .leads) (a .finished))
+
+-- of a held round,
+pub demand-3-round : (r : Round) (lent : List ℕ) → Decides r (isHeld r) → settleNumber (settleAnswer r (length lent)) ≡ 0
+    → (records : List (List ℕ)) × AcceptedRound r lent records × Demand3 r (settleList r lent)
+demand-3-round r lent decides z = let a = accepted-led-round r lent decides z in (a .0, a .1, accepted-3 Paid _ _ (a .0) r (a .1))
+
+-- of a file,
 pub demand-3-file : (l lent : List ℕ) → areBytes l ≡ true → fileNumber (fileAnswer l (length lent)) ≡ 0
-    → (a : Accepted l lent) × Demand3 (a .round) (fileList l lent)
-demand-3-file l lent h z =
-    let a = accepted-led l lent h z in
-    (a, subst (λ (amounts : List ℕ). Demand3 (a .round) amounts) (sym (a .list)) (demand-3 (a .round) (fileRecords l, a .records) (a .finished)))
+    → (r : Round) × AcceptedFile l lent r × Demand3 r (fileList l lent)
+demand-3-file l lent h z = let a = accepted-led-file l lent h z in (a .0, a .1, accepted-3 PaidFile _ _ (fileRecords l) (a .0) (a .1))
+
+-- and of a file of which the first bytes are held.
+pub demand-3-prefix : (first : List ℕ) (after : ℕ) (lent : List ℕ) → areBytes first ≡ true → fileNumber (prefixAnswer first after (length lent)) ≡ 0
+    → (r : Round) × AcceptedPrefix first after lent r × Demand3 r (prefixList first after lent)
+demand-3-prefix first after lent h z =
+    let a = accepted-led-prefix first after lent h z .1 in (a .0, a .1, accepted-3 PaidFile _ _ (fileRecords first) (a .0) (a .1))
 
 -- The floor is reached: in the file of the whole round of document 01, seat 2 is paid its floor of 4,166 dollars and no more.
 abbrev pub wholeFile : List ℕ
 wholeFile = joined (whole-led .0)
 
 pub whole-file : (lent : List ℕ) → length lent ≡ resultsLong
-    → (fileAnswer wholeFile (length lent) ≡ Paid 600000 24999) × (fileList wholeFile lent ≡ results wholeRound)
+    → (fileAnswer wholeFile (length lent) ≡ PaidFile 600000 24999) × (fileList wholeFile lent ≡ results wholeRound)
 whole-file lent room =
     let read = joined-read (whole-led .0) wholeRound (whole-led .1) in
     let p = read-paid (stop wholeRound 0 (length (whole-led .0))) lent whole-led refl room whole-finished in

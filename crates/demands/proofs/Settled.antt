@@ -1,7 +1,7 @@
--- What a file's answer says of its records: where it is refused the lent list is as it was, and where it is not, its records lead to a finished
--- round whose results the list then holds.
+-- What the answer to a round, or to what was read of a file, says: where it is a refusal the lent list is as it was, and where it is none, the
+-- round is finished and the list holds its results.
 -- Assumes nothing.
-use Prim.Native.Nat.{ℕ}
+use Prim.Native.Nat.{ℕ, _≤_}
 use mathlib.Core.Path.{_≡_, refl, sym, ap, _∙_}
 use mathlib.Core.Bool.{Bool, true, false, not}
 use mathlib.Core.List.{List}
@@ -22,7 +22,7 @@ use Rattle.settlement.specs.declared.Settlement.{Settlement}
 use Rattle.settlement.specs.declared.Settlement.the-variants.{Paid, Refused}
 use Rattle.settlement.specs.declared.FileSettlement.{FileSettlement}
 use Rattle.settlement.specs.declared.FileSettlement.the-variants.{Paid as PaidFile, Refused as RefusedFile}
-use Rattle.settlement.proofs.Answers.{all-paid, read-settled}
+use Rattle.settlement.proofs.Answers.{all-paid}
 use Rattle.settlement.specs.Settle.{settleRefusal, settleAnswer, settleList, settleNumber, atPlace, readAnswer, readList, fileNumber, filePlace}
 
 -- ---- a round
@@ -40,8 +40,9 @@ module _ (r : Round) (lent : List ℕ) where
   unfolding settleList
   settle-left n = simp (ne-eqb (settleRefusal r (length lent)) 0 (λ e. n (settle-number ∙ e)))
 
-  -- no refusal: the list has 28 places, the round is finished, and the results are written
+  -- no refusal: the round is held, the list has 28 places, the round is finished, and the results are written
   pub record Done : Type 0 where
+    pub held : isHeld r ≡ true
     pub room : length lent ≡ resultsLong
     pub finished : isFinished r ≡ true
     pub answer : settleAnswer r (length lent) ≡ Paid (pool r .full) (pool r .paid)
@@ -54,7 +55,20 @@ module _ (r : Round) (lent : List ℕ) where
       let held = passed (isHeld r) 16 (if not (eqb (length lent) resultsLong) then 1 else if not (isFinished r) then 16 else 0) none in
       let room = passed (eqb (length lent) resultsLong) 0 (if not (isFinished r) then 16 else 0) (held .1) in
       let done = passed (isFinished r) 15 0 (room .1) in
-      record { room = eqb-true (length lent) resultsLong (room .0); finished = done .0; answer = simp none; list = simp none }
+      record { held = held .0; room = eqb-true (length lent) resultsLong (room .0); finished = done .0; answer = simp none; list = simp none }
+
+  pub settle-paid : Led r → length lent ≡ resultsLong → isFinished r ≡ true → (settleAnswer r (length lent) ≡ Paid (pool r .full) (pool r .paid)) × (settleList r lent ≡ results r)
+  settle-paid l e f = let paid = all-paid r lent (led-held r l) e f (results r) refl in (sym (paid .0), sym (paid .1))
+
+  -- a held round is refused by 1 or 16
+  settle-most : isHeld r ≡ true → settleNumber (settleAnswer r (length lent)) ≤ 16
+  unfolding settleRefusal
+  settle-most h = rw settle-number (simp h (go (eqb (length lent) resultsLong) (isFinished r)))
+    where
+      go : (room finished : Bool) → (if not room then 1 else if not finished then 16 else 0) ≤ 16
+      go false finished = omega arith
+      go true false = omega arith
+      go true true = omega arith
 
 -- ---- a reading
 
@@ -102,10 +116,18 @@ module _ (w : Reading) (lent : List ℕ) where
 
   pub read-paid : Led (w .round) → w .number ≡ 0 → length lent ≡ resultsLong → isFinished (w .round) ≡ true
       → (readAnswer w (length lent) ≡ PaidFile (pool (w .round) .full) (pool (w .round) .paid)) × (readList w lent ≡ results (w .round))
-  read-paid l z e f =
-      let paid = all-paid (w .round) lent (led-held (w .round) l) e f (results (w .round)) refl in
-      let p = read-settled w lent e z (Paid (pool (w .round) .full) (pool (w .round) .paid)) (results (w .round)) paid in
-      (sym (p .0), sym (p .1))
+  unfolding readAnswer readList
+  read-paid l z e f = let p = settle-paid (w .round) lent l e f in (simp (eq-eqb (length lent) resultsLong e, z, p .0), simp z (p .1))
+
+  -- a reading that holds a round, and whose number is at most 15, is answered by at most 16
+  pub read-most : isHeld (w .round) ≡ true → w .number ≤ 15 → fileNumber (readAnswer w (length lent)) ≤ 16
+  unfolding readAnswer
+  read-most h m = go (eqb (length lent) resultsLong) (eqb (w .number) 0)
+    where
+      go : (room none : Bool) → fileNumber (if not room then RefusedFile 1 0 else if not none then RefusedFile (w .number) (w .place) else inner) ≤ 16
+      go false none = omega arith
+      go true false = omega arith
+      go true true = omega (arith, at-number (w .place) (settleAnswer (w .round) (length lent)), settle-most (w .round) lent h)
 
   -- a refusal that isn't of the list carries the place where reading ended
   pub refused-place : length lent ≡ resultsLong → (fileNumber (readAnswer w (length lent)) ≡ 0 → ⊥) → filePlace (readAnswer w (length lent)) ≡ w .place

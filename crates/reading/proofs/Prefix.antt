@@ -9,7 +9,7 @@ use native.Mathlib.Omega.{arith}
 use lib.Dec.{eqb, ltb, leb}
 use lib.ListN.{length, take, drop}
 use lib.Seq.{take-all, length-take-le}
-use borrow.Author.Tests.{ne-eqb, le-ltb, ltb-false, leb-true, leb-false, eqb-false}
+use borrow.Author.Tests.{eqb-true, eqb-false, ne-eqb, ltb-false, le-ltb, leb-true, leb-false}
 use Rattle.counting.specs.Choose.{if_then_else_}
 use Rattle.records.specs.Bytes.{areBytes}
 use Rattle.round.specs.Order.{freshRound}
@@ -19,59 +19,56 @@ use Rattle.led.proofs.Counts.{at-most-33}
 use Rattle.reading.specs.declared.Reading.{Reading}
 use Rattle.reading.specs.File.{fileRecords, stop, readRecords, readFile, heldRecords, orTooMany, readPrefix}
 use Rattle.reading.proofs.Records.{records-count, first-bytes, records-bytes, records-split}
-use Rattle.reading.proofs.Readings.{records-read, records-fit, records-refused, records-lead}
+use Rattle.reading.proofs.Readings.{records-number, records-fit, records-refused, records-lead, read-count}
 
 -- ---- one too many
 
--- changes only the number
-too-many-round : (more : Bool) (w : Reading) → orTooMany more w .round ≡ w .round
-too-many-round more w = go (eqb (w .number) 0 && more)
-  where
-    go : (t : Bool) → (if t then stop (w .round) 3 (w .place) else w) .round ≡ w .round
-    go true = refl
-    go false = refl
-
--- and none where there are no more, or one was refused
+-- there is none where there are no more, or one was refused
 none-more : (w : Reading) → orTooMany false w ≡ w
 none-more w = simp and-false
 
 refused-already : (more : Bool) (w : Reading) → (w .number ≡ 0 → ⊥) → orTooMany more w ≡ w
 refused-already more w n = simp (ne-eqb (w .number) 0 n)
 
--- ---- the round that is then held
+-- ---- the round that is then held, and the number
 
-pub prefix-held : (first : List ℕ) (after : ℕ) → isHeld (readPrefix first after .round) ≡ true
-unfolding readPrefix
-prefix-held first after = fits-held (readPrefix first after .round) (go (eqb ((length first + after) % 16) 0))
-  where
-    more : Bool
-    more = ltb (length first / 16) ((length first + after) / 16)
+module _ (first : List ℕ) (after : ℕ) where
+  abbrev read : Reading
+  read = readRecords (fileRecords first)
 
-    go : (t : Bool) → Fits ((if not t then stop freshRound 2 ((length first + after) / 16) else orTooMany more (readRecords (fileRecords first))) .round)
-    go true = rw (too-many-round more (readRecords (fileRecords first))) (records-fit (fileRecords first))
-    go false = fresh-fits
+  abbrev bytes : ℕ
+  bytes = length first + after
 
--- ---- where reading ends with no refusal
+  -- what holds where there is an odd tail, where a record comes after those held, and of these holds of the prefix
+  prefix-either : (P : Reading → Type 0) → P (stop freshRound 2 (bytes / 16)) → P (stop (read .round) 3 (read .place)) → P read → P (readPrefix first after)
+  unfolding readPrefix
+  prefix-either P odd beyond held = go (eqb (bytes % 16) 0) (eqb (read .number) 0 && ltb (length first / 16) (bytes / 16))
+    where
+      go : (even more : Bool) → P (if not even then stop freshRound 2 (bytes / 16) else if more then stop (read .round) 3 (read .place) else read)
+      go true true = beyond
+      go true false = held
+      go false more = odd
 
--- no record comes after those that are held, so all were read
-pub prefix-count : (first : List ℕ) (after : ℕ) → readPrefix first after .number ≡ 0 → readPrefix first after .place ≡ (length first + after) / 16
-unfolding readPrefix
-prefix-count first after = go (eqb ((length first + after) % 16) 0) (eqb (w .number) 0) refl (ltb (length first / 16) whole) refl
-  where
-    w : Reading
-    w = readRecords (fileRecords first)
+  pub prefix-held : isHeld (readPrefix first after .round) ≡ true
+  prefix-held =
+      let fit = records-fit (fileRecords first) in
+      fits-held (readPrefix first after .round) (prefix-either (λ w. Fits (w .round)) fresh-fits fit fit)
 
-    whole : ℕ
-    whole = (length first + after) / 16
+  pub prefix-number : readPrefix first after .number ≤ 15
+  prefix-number = prefix-either (λ w. w .number ≤ 15) (omega arith) (omega arith) (records-number (fileRecords first))
 
-    go : (even none : Bool) → eqb (w .number) 0 ≡ none → (more : Bool) → ltb (length first / 16) whole ≡ more
-        → let read = if not even then stop freshRound 2 whole else if none && more then stop (w .round) 3 (w .place) else w in
-        read .number ≡ 0 → read .place ≡ whole
-    go false none e more q z = absurd (omega arith)
-    go true false e more q z = absurd (eqb-false (w .number) 0 e z)
-    go true true e true q z = absurd (omega arith)
-    go true true e false q z =
-        omega (arith, records-read (fileRecords first) z, records-count first, ltb-false (length first / 16) whole q)
+  -- without a refusal nothing comes after
+  pub prefix-ends : readPrefix first after .number ≡ 0 → after ≡ 0
+  unfolding readPrefix
+  prefix-ends = go (eqb (bytes % 16) 0) refl (eqb (read .number) 0) refl (ltb (length first / 16) (bytes / 16)) refl
+    where
+      go : (even : Bool) → eqb (bytes % 16) 0 ≡ even → (none : Bool) → eqb (read .number) 0 ≡ none → (more : Bool) → ltb (length first / 16) (bytes / 16) ≡ more
+          → (if not even then stop freshRound 2 (bytes / 16) else if none && more then stop (read .round) 3 (read .place) else read) .number ≡ 0
+          → after ≡ 0
+      go false e none p more m z = absurd (omega arith)
+      go true e false p more m z = absurd (eqb-false (read .number) 0 p z)
+      go true e true p true m z = absurd (omega arith)
+      go true e true p false m z = omega (arith, eqb-true (bytes % 16) 0 e, ltb-false (length first / 16) (bytes / 16) m)
 
 -- ---- the whole file
 
@@ -79,6 +76,12 @@ prefix-count first after = go (eqb ((length first + after) % 16) 0) (eqb (w .num
 pub prefix-none : (l : List ℕ) → readPrefix l 0 ≡ readFile l
 unfolding readPrefix readFile
 prefix-none l = rw (add-zero (length l), le-ltb (length l / 16) (length l / 16) (omega arith), none-more)
+
+-- so without a refusal all whole records were read
+pub prefix-count : (first : List ℕ) (after : ℕ) → readPrefix first after .number ≡ 0 → readPrefix first after .place ≡ (length first + after) / 16
+prefix-count first after z =
+    let none = prefix-ends first after z in
+    rw (none, prefix-none first, add-zero (length first)) (read-count first (rw (none, prefix-none first) at z))
 
 -- as many records as are held are not all accepted, so reading ends among them
 module _ (l : List ℕ) (e : areBytes l ≡ true) (h : 16 * heldRecords ≤ length l) where

@@ -15,7 +15,7 @@ use Rattle.round.specs.declared.Round.{Round}
 use Rattle.round.specs.declared.Step.{Step}
 use Rattle.round.specs.Order.{freshRound}
 use Rattle.round.specs.Feed.{refusal, next, feed, numberOf}
-use Rattle.round.proofs.Numbers.{feed-number, feed-next}
+use Rattle.round.proofs.Numbers.{feed-number, feed-next, refusal-most}
 use Rattle.led.specs.Led.{isTaken, Leads}
 use Rattle.led.specs.Led.Leads.{done, then as accepts}
 use Rattle.led.specs.Held.{isHeld}
@@ -95,6 +95,15 @@ records-place bs = omega (arith, place-from bs freshRound 0)
 pub records-read : (bs : List (List ℕ)) → readRecords bs .number ≡ 0 → readRecords bs .place ≡ length bs
 records-read bs z = omega (arith, count-from bs freshRound 0 z)
 
+-- the number is a record's refusal or 0
+pub records-number : (bs : List (List ℕ)) → readRecords bs .number ≤ 15
+records-number bs =
+    along feed (λ r p bs w. w .number ≤ 15)
+    (λ r p. omega arith)
+    (λ r p b bs w a h. h)
+    (λ r p b bs a. omega (arith, feed-number r b, refusal-most r b))
+    bs freshRound 0
+
 -- the round that is then held passes the test
 pub records-fit : (bs : List (List ℕ)) → Fits (readRecords bs .round)
 records-fit bs =
@@ -171,6 +180,9 @@ read-count l =
     file-either (λ w. w .number ≡ 0 → w .place ≡ length l / 16) l
     (λ z. absurd (omega arith))
     (λ z. records-read (fileRecords l) z ∙ records-count l)
+
+pub read-number : (l : List ℕ) → readFile l .number ≤ 15
+read-number l = file-either (λ w. w .number ≤ 15) l (omega arith) (records-number (fileRecords l))
 
 pub read-held : (l : List ℕ) → isHeld (readFile l .round) ≡ true
 read-held l = fits-held (readFile l .round) (file-either (λ w. Fits (w .round)) l fresh-fits (records-fit (fileRecords l)))
