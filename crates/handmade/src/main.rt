@@ -1,0 +1,200 @@
+// Answers held rounds that were made by hand, as no record could: what one record to each is answered, and what settling it is.
+//
+// Standard input is a run of items of 159 bytes: a round as its 143 bytes, then a record of 16. A round's bytes are the table's six numbers; the antes, Board,
+// Pocket and Lo Ball wagers of seats 1 to 7, two bytes each, low byte first; the 52 cards; how many deck parts were read; the 21 raises, street by street; the
+// seven folds. Printed is a line for each item: `take` with `next`, `finished` or `refused N`, then `settle` with `refused N`, or with `paid`, the 28 amounts in
+// cents, `pool` and the pool in dollars, full and as paid.
+//
+// The items in stdin beside src/ and the lines in stdout come from the settler in oracle/, which makes both again at every test: each byte of nine rounds is
+// changed to several others. Every function here is proved safe and ending; what the program prints is tested and not proved.
+use choosing::Play;
+use dealing::Deck;
+use pipes::Outcome;
+use pipes::called;
+use pipes::end;
+use pipes::read_into;
+use pipes::tell;
+use pipes::tell_unread;
+use pipes::tell_unwritten;
+use pipes::write_out;
+use records::byte_at;
+use records::word_at;
+use results::RESULTS;
+use round::Answer;
+use round::Round;
+use seating::Table;
+use seating::Wagers;
+use settlement::Settlement;
+use text::put_bytes;
+use text::put_named;
+use text::up_to;
+ghost use Prim.Native.Nat.{_≤_};
+
+const NAME: [u8; 8] = *b"handmade";
+
+// The bytes of a round and a record.
+const ITEM: usize = 159;
+
+// Every loop must end: this one after 2^40 items.
+const MOST_ITEMS: usize = 1099511627776;
+
+// What became of one turn.
+enum Turn {
+    Answered,
+    End,
+    Fault,
+}
+
+fn words_from(item: &[u8], from: u8) -> [u16; 7]
+    requires { ⌜ from ≤ 48 ⌝ }
+{
+    let mut words = [0u16; 7];
+    for k in 0..7 {
+        words[k] = word_at(item, from + 2 * (k as u8));
+    }
+    words
+}
+
+fn cards_of(item: &[u8]) -> [u8; 52] {
+    let mut cards = [0u8; 52];
+    for k in 0..52 {
+        cards[k] = byte_at(item, 62 + k);
+    }
+    cards
+}
+
+fn raises_of(item: &[u8]) -> [u8; 21] {
+    let mut raises = [0u8; 21];
+    for k in 0..21 {
+        raises[k] = byte_at(item, 115 + k);
+    }
+    raises
+}
+
+fn folds_of(item: &[u8]) -> [u8; 7] {
+    let mut folds = [0u8; 7];
+    for k in 0..7 {
+        folds[k] = byte_at(item, 136 + k);
+    }
+    folds
+}
+
+fn table_of(item: &[u8]) -> Table {
+    Table {
+        smallest: byte_at(item, 0),
+        largest: byte_at(item, 1),
+        base: byte_at(item, 2),
+        lo: byte_at(item, 3),
+        board: byte_at(item, 4),
+        pocket: byte_at(item, 5),
+    }
+}
+
+fn round_of(item: &[u8]) -> Round {
+    Round {
+        table: table_of(item),
+        wagers: Wagers {
+            antes: words_from(item, 6),
+            board: words_from(item, 20),
+            pocket: words_from(item, 34),
+            lo: words_from(item, 48),
+        },
+        deck: Deck {
+            cards: cards_of(item),
+            parts: byte_at(item, 114),
+        },
+        play: Play {
+            raises: raises_of(item),
+            folds: folds_of(item),
+        },
+    }
+}
+
+fn put_taken(line: &mut [u8], answer: Answer) -> usize {
+    match answer {
+        Answer::Next => put_bytes(line, 0, b"take next"),
+        Answer::Finished => put_bytes(line, 0, b"take finished"),
+        Answer::Refused(number) => put_named(line, 0, b"take refused ", number as u64),
+    }
+}
+
+fn put_amounts(line: &mut [u8], at: usize, amounts: [u64; RESULTS]) -> usize {
+    let mut end = at;
+    for i in 0..RESULTS {
+        end = put_named(line, end, b" ", amounts[i]);
+    }
+    end
+}
+
+fn put_paid(line: &mut [u8], at: usize, amounts: [u64; RESULTS], full: u64, paid: u64) -> usize {
+    let begun = put_bytes(line, at, b" settle paid");
+    let listed = put_amounts(line, begun, amounts);
+    let pooled = put_named(line, listed, b" pool ", full);
+    put_named(line, pooled, b" ", paid)
+}
+
+fn put_settled(line: &mut [u8], at: usize, round: Round) -> usize {
+    let mut amounts = [0u64; RESULTS];
+    match settlement::settle(round, &mut amounts) {
+        Settlement::Paid { full, paid } => put_paid(line, at, amounts, full, paid),
+        Settlement::Refused(number) => put_named(line, at, b" settle refused ", number as u64),
+    }
+}
+
+fn put_answers(line: &mut [u8], item: [u8; ITEM]) -> usize {
+    let round = round_of(&item);
+    let step = held::take(round, &item[143..159]);
+    let answer = step.answer;
+    let taken = put_taken(line, answer);
+    let settled = put_settled(line, taken, round);
+    put_bytes(line, settled, b"\n")
+}
+
+fn answer_item(item: [u8; ITEM]) -> Turn {
+    let mut line = [0u8; 1024];
+    let last = put_answers(&mut line, item);
+    if write_out(up_to(&line, last)) {
+        return Turn::Answered;
+    }
+    tell_unwritten(&NAME);
+    Turn::Fault
+}
+
+fn answer_next() -> Turn {
+    let mut item = [0u8; ITEM];
+    let got = read_into(&mut item);
+    if got.failed {
+        tell_unread(&NAME);
+        return Turn::Fault;
+    }
+    if got.bytes == 0 {
+        return Turn::End;
+    }
+    if got.bytes < ITEM {
+        tell(&NAME, b"the stream ends inside an item");
+        return Turn::Fault;
+    }
+    answer_item(item)
+}
+
+fn answer_all() -> Outcome {
+    let mut items = 0;
+    while items < MOST_ITEMS {
+        match answer_next() {
+            Turn::Answered => {}
+            Turn::End => return Outcome::Done,
+            Turn::Fault => return Outcome::Fault,
+        }
+        items += 1;
+    }
+    Outcome::Done
+}
+
+fn main() {
+    let call = called(&NAME, true);
+    if call.sound {
+        end(&NAME, call, answer_all());
+    } else {
+        end(&NAME, call, Outcome::Fault);
+    }
+}
