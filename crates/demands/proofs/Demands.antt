@@ -8,7 +8,7 @@
 use Prim.Native.Nat.{ℕ, _*_, _-_, _%_, _≤_}
 use mathlib.Core.Path.{_≡_, refl, sym, ap, _∙_}
 use mathlib.Core.Bool.{true}
-use mathlib.Core.List.{List}
+use mathlib.Core.List.{List, [], _∷_}
 use lib.ListN.{length, take, drop}
 use Rattle.counting.specs.Count.{total}
 use Rattle.counting.proofs.Once.{one-answer}
@@ -28,8 +28,7 @@ use Rattle.pool.proofs.Shares.{answer-number, refused as share-refused}
 use Rattle.amounts.specs.Base.{handOf, win, wins}
 use Rattle.results.specs.Results.{pool, resultsLong, results}
 use Rattle.reading.specs.File.{fileRecords, stop, readBy, readFile, heldRecords, readPrefix, refusedPart}
-use Rattle.reading.specs.Joined.{joined}
-use Rattle.reading.proofs.Readings.{leads-read, read-by-same, read-number, read-held, read-leads, joined-read}
+use Rattle.reading.proofs.Readings.{leads-read, read-by-same, read-number, read-held, read-leads}
 use Rattle.reading.proofs.Prefix.{prefix-held, prefix-number, prefix-ends, prefix-none, prefix-whole}
 use Rattle.pooling.proofs.Shared.{pool-totals}
 use Rattle.settlement.specs.declared.Settlement.{Settlement}
@@ -38,10 +37,11 @@ use Rattle.settlement.specs.declared.FileSettlement.{FileSettlement}
 use Rattle.settlement.specs.declared.FileSettlement.the-variants.{Paid as PaidFile}
 use Rattle.settlement.specs.Settle.{settleAnswer, settleList, settleNumber, readAnswer, readList, fileAnswer, fileList, prefixAnswer, prefixList, fileNumber, filePlace}
 use Rattle.demands.specs.Floor.{floorOf, paidOf, Demand3}
+use Rattle.demands.specs.Whole.{wholeFile, wholeRound}
 use Rattle.demands.proofs.Settled.{settle-left, settled, settle-paid, read-left, read-done, read-paid, read-most, refused-place}
 use Rattle.demands.proofs.Taken.{take-left, take-feeds}
 use Rattle.demands.proofs.Third.{demand-3}
-use Rattle.demands.proofs.Whole.{wholeRound, whole-led, whole-finished, whole-pool, floor-reached}
+use Rattle.demands.proofs.Whole.{whole-even, whole-leads, whole-finished, whole-pool, whole-results, floor-reached}
 
 -- ==== Demand 1. Every input gets an answer. Each entry checks what it is handed and refuses by number;
 
@@ -209,17 +209,24 @@ pub demand-3-prefix : (first : List ℕ) (after : ℕ) (lent : List ℕ) → are
 demand-3-prefix first after lent h z =
     let a = accepted-led-prefix first after lent h z .1 in (a .0, a .1, accepted-3 PaidFile _ _ (fileRecords first) (a .0) (a .1))
 
--- The floor is reached: in the file of the whole round of document 01, seat 2 is paid its floor of 4,166 dollars and no more.
-abbrev pub wholeFile : List ℕ
-wholeFile = joined (whole-led .0)
+-- The whole round of document 01: its file is accepted, and its records lead to that round.
+pub whole-accepted : (lent : List ℕ) → length lent ≡ resultsLong → AcceptedFile wholeFile lent wholeRound
+whole-accepted lent room = led-accepted-file wholeFile lent wholeRound whole-even room whole-leads whole-finished
 
+-- These are the answer to its file and the list that is then given, a seat on each line.
 pub whole-file : (lent : List ℕ) → length lent ≡ resultsLong
-    → (fileAnswer wholeFile (length lent) ≡ PaidFile 600000 24999) × (fileList wholeFile lent ≡ results wholeRound)
+    → (fileAnswer wholeFile (length lent) ≡ PaidFile 600000 24999)
+    × (fileList wholeFile lent ≡ 2183300 ∷ 20500 ∷ 10500 ∷ 0
+    ∷ 516600 ∷ 0 ∷ 0 ∷ 0
+    ∷ 0 ∷ 0 ∷ 0 ∷ 0
+    ∷ 0 ∷ 0 ∷ 0 ∷ 0
+    ∷ 0 ∷ 0 ∷ 0 ∷ 0
+    ∷ 0 ∷ 0 ∷ 0 ∷ 0
+    ∷ 0 ∷ 0 ∷ 0 ∷ 0 ∷ [])
 whole-file lent room =
-    let read = joined-read (whole-led .0) wholeRound (whole-led .1) in
-    let p = read-paid (stop wholeRound 0 (length (whole-led .0))) lent whole-led refl room whole-finished in
-    rw (read, ← whole-pool .0, ← whole-pool .1) p
+    let a = whole-accepted lent room in (rw (whole-pool .0, whole-pool .1) at (a .answered), a .listed ∙ whole-results)
 
+-- The floor is reached: there seat 2 is paid its floor of 4,166 dollars and no more.
 pub floor-is-paid : (lent : List ℕ) → length lent ≡ resultsLong
     → (floorOf (wholeRound .table) (isRoyal (handOf wholeRound 1)) (win wholeRound 1) ≡ 4166) × (paidOf wholeRound (fileList wholeFile lent) 1 ≡ 100 * 4166)
-floor-is-paid lent room = (floor-reached .0, rw (whole-file lent room .1) (floor-reached .1))
+floor-is-paid lent room = (floor-reached .0, rw (whole-accepted lent room .listed) (floor-reached .1))
