@@ -40,8 +40,8 @@ use Rattle.demands.specs.Floor.{floorOf, paidOf, Demand3}
 use Rattle.demands.specs.Whole.{wholeFile, wholeRound}
 use Rattle.demands.proofs.Settled.{settle-left, settled, settle-paid, read-left, read-done, read-paid, read-most, refused-place}
 use Rattle.demands.proofs.Taken.{take-left, take-feeds}
-use Rattle.demands.proofs.Third.{demand-3}
 use Rattle.demands.proofs.Whole.{whole-even, whole-leads, whole-finished, whole-pool, whole-results, floor-reached}
+use Rattle.demands.proofs.Third.{demand-3}
 
 -- ==== Demand 1. Every input gets an answer. Each entry checks what it is handed and refuses by number;
 

@@ -88,7 +88,7 @@ module _ (r : Round) (l : Led r) (e : isFinished r ≡ true) where
   pub demand-3 : Demand3 r (results r)
   demand-3 =
       record {
-        few = few r l e;
+        few = omega (arith, few r l e);
         top = λ k h p. is-royal-or (handOf r k) (pooled-top r l k h p);
         together = omega (arith, pool-paid r l, shares-within r l);
         noMore = λ k h p. omega (arith, paid-at r k h, share-most r k h);

@@ -1,5 +1,5 @@
--- The whole round of document 01: the records of its file lead to it, it is finished, and these are its results and its pool. The second
--- seat is paid exactly its floor.
+-- The whole round of document 01: the records of its file lead to it, it is finished, and these are its results and its pool. As many seats
+-- have a win in the pool as may, and the second is paid exactly its floor.
 -- Assumes nothing.
 use Prim.Native.Nat.{_%_}
 use mathlib.Core.Path.{_≡_, refl}
@@ -39,7 +39,7 @@ use Rattle.holding.specs.Deal.{playingBefore, hole, community, five}
 use Rattle.amounts.specs.Base.{baseWager, handOf, basePayOf, pooled, win, kept, wins}
 use Rattle.amounts.specs.Sides.{boardPayOf, pocketPayOf, loPayOf, boardAmount, pocketAmount, loAmount}
 use Rattle.results.specs.Results.{pool, baseAmount, seatAmounts, results}
-use Rattle.demands.specs.Floor.{floorOf, paidOf}
+use Rattle.demands.specs.Floor.{floorOf, paidOf, mostPooled}
 use Rattle.demands.specs.Whole.{wholeFile, wholeRound}
 
 pub whole-held : isHeld wholeRound ≡ true
@@ -70,6 +70,11 @@ whole-finished = refl
 pub whole-results : results wholeRound ≡ 2183300 ∷ 20500 ∷ 10500 ∷ 0 ∷ 516600 ∷ replicate 23 0
 unfolding wholeRound tally everyBelow someBelow count total gather ofRank ofSuit kinds flush rankOn run straight highest fiveBy nameFive boardBy nameBoard aceFace pocketBy namePocket isLo loBy nameLo baseLines loLines boardLines pocketLines payIn basePay loPay boardPay pocketPay shareOf sharesOf winsFit shareRefusal poolOf everyOf playingBefore hole community five baseWager handOf basePayOf pooled win kept wins boardPayOf pocketPayOf loPayOf boardAmount pocketAmount loAmount pool baseAmount seatAmounts results
 whole-results = refl
+
+-- two seats have a win in the pool, and the third demand allows no more
+pub whole-pooled : tally 7 (pooled wholeRound) ≡ mostPooled
+unfolding wholeRound tally everyBelow someBelow count ofRank ofSuit flush rankOn run straight fiveBy nameFive baseLines payIn basePay playingBefore hole community five handOf basePayOf pooled
+whole-pooled = refl
 
 -- the pool in dollars, full and as paid
 pub whole-pool : (pool wholeRound .full ≡ 600000) × (pool wholeRound .paid ≡ 24999)

@@ -28,10 +28,14 @@ floorOf t royal w = min w (maximum t * w / (w + otherWin t royal))
 unfoldable pub paidOf : Round → List ℕ → ℕ → ℕ
 paidOf r amounts k = if pooled r k then getD amounts (seatWagers * k) 0 - 100 * baseWager r k else 0
 
+-- how many seats may hold base wins at odds above 50 to 1
+abbrev pub mostPooled : ℕ
+mostPooled = 2
+
 -- the third demand, of a round and the results list that was given for it
 pub record Demand3 (r : Round) (amounts : List ℕ) : Type 0 where
   -- In every settled round at most two seats hold base wins at odds above 50 to 1,
-  pub few : tally 7 (pooled r) ≤ 2
+  pub few : tally 7 (pooled r) ≤ mostPooled
   -- with a royal flush or a straight flush.
   pub top : (k : ℕ) → k < 7 → pooled r k ≡ true → (handOf r k ≡ RoyalFlush) ⊎ (handOf r k ≡ StraightFlush)
   -- Together those wins are paid no more than the maximum,

@@ -3,3 +3,4 @@ pub mod Pooled
 pub mod Shared
 pub mod Absent
 pub mod Listed
+pub mod Folded
