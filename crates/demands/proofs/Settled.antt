@@ -22,23 +22,15 @@ use Rattle.settlement.specs.declared.Settlement.{Settlement}
 use Rattle.settlement.specs.declared.Settlement.the-variants.{Paid, Refused}
 use Rattle.settlement.specs.declared.FileSettlement.{FileSettlement}
 use Rattle.settlement.specs.declared.FileSettlement.the-variants.{Paid as PaidFile, Refused as RefusedFile}
-use Rattle.settlement.proofs.Answers.{all-paid}
+use Rattle.settlement.proofs.Answers.{all-paid, settle-number}
 use Rattle.settlement.specs.Settle.{settleRefusal, settleAnswer, settleList, settleNumber, atPlace, readAnswer, readList, fileNumber, filePlace}
 
 -- ---- a round
 
 module _ (r : Round) (lent : List ℕ) where
-  pub settle-number : settleNumber (settleAnswer r (length lent)) ≡ settleRefusal r (length lent)
-  unfolding settleAnswer
-  settle-number = go (settleRefusal r (length lent)) (eqb (settleRefusal r (length lent)) 0) refl
-    where
-      go : (n : ℕ) (none : Bool) → eqb n 0 ≡ none → settleNumber (if not none then Refused n else Paid (pool r .full) (pool r .paid)) ≡ n
-      go n true e = sym (eqb-true n 0 e)
-      go n false e = refl
-
   pub settle-left : (settleNumber (settleAnswer r (length lent)) ≡ 0 → ⊥) → settleList r lent ≡ lent
   unfolding settleList
-  settle-left n = simp (ne-eqb (settleRefusal r (length lent)) 0 (λ e. n (settle-number ∙ e)))
+  settle-left n = simp (ne-eqb (settleRefusal r (length lent)) 0 (λ e. n (settle-number r (length lent) ∙ e)))
 
   -- no refusal: the round is held, the list has 28 places, the round is finished, and the results are written
   pub record Done : Type 0 where
@@ -51,7 +43,7 @@ module _ (r : Round) (lent : List ℕ) where
   pub settled : settleNumber (settleAnswer r (length lent)) ≡ 0 → Done
   unfolding settleRefusal settleAnswer settleList
   settled z =
-      let none : settleRefusal r (length lent) ≡ 0 = sym settle-number ∙ z in
+      let none : settleRefusal r (length lent) ≡ 0 = sym (settle-number r (length lent)) ∙ z in
       let held = passed (isHeld r) 16 (if not (eqb (length lent) resultsLong) then 1 else if not (isFinished r) then 16 else 0) none in
       let room = passed (eqb (length lent) resultsLong) 0 (if not (isFinished r) then 16 else 0) (held .1) in
       let done = passed (isFinished r) 15 0 (room .1) in
@@ -63,7 +55,7 @@ module _ (r : Round) (lent : List ℕ) where
   -- a held round is refused by 1 or 16
   settle-most : isHeld r ≡ true → settleNumber (settleAnswer r (length lent)) ≤ 16
   unfolding settleRefusal
-  settle-most h = rw settle-number (simp h (go (eqb (length lent) resultsLong) (isFinished r)))
+  settle-most h = rw (settle-number r (length lent)) (simp h (go (eqb (length lent) resultsLong) (isFinished r)))
     where
       go : (room finished : Bool) → (if not room then 1 else if not finished then 16 else 0) ≤ 16
       go false finished = omega arith

@@ -8,21 +8,14 @@ use lib.Dec.{eqb}
 use Rattle.counting.specs.Choose.{if_then_else_}
 use Rattle.round.specs.declared.Round.{Round}
 use Rattle.round.specs.Order.{isFinished}
-use Rattle.round.specs.declared.Answer.the-variants.{Next, Finished}
 use Rattle.round.specs.Feed.{refusal, next, refused, accepted, feed, numberOf}
+use Rattle.round.proofs.Numbers.{on-or-finished}
 use Rattle.led.specs.Held.{isHeld}
 use Rattle.held.specs.Take.{takes}
 
 pub take-feeds : (r : Round) (b : List ℕ) → isHeld r ≡ true → takes r b ≡ feed r b
 unfolding takes
 take-feeds r b h = simp h
-
-accept-number : (r : Round) → numberOf (accepted r .answer) ≡ 0
-accept-number r = go (isFinished r)
-  where
-    go : (b : Bool) → numberOf (if b then Finished else Next) ≡ 0
-    go true = refl
-    go false = refl
 
 feed-left : (r : Round) (b : List ℕ) → (numberOf (feed r b .answer) ≡ 0 → ⊥) → feed r b .round ≡ r
 unfolding feed
@@ -31,7 +24,7 @@ feed-left r b = go (eqb (refusal r b) 0)
     go : (none : Bool) → (numberOf ((if not none then refused (refusal r b) r else accepted (next r b)) .answer) ≡ 0 → ⊥)
         → (if not none then refused (refusal r b) r else accepted (next r b)) .round ≡ r
     go false n = refl
-    go true n = absurd (n (accept-number (next r b)))
+    go true n = absurd (n (on-or-finished (isFinished (next r b))))
 
 pub take-left : (r : Round) (b : List ℕ) → (numberOf (takes r b .answer) ≡ 0 → ⊥) → takes r b .round ≡ r
 unfolding takes

@@ -19,7 +19,7 @@ use Rattle.round.specs.declared.Answer.the-variants.{Next, Finished}
 use Rattle.round.specs.Order.{isFinished}
 use Rattle.round.specs.Feed.{kindRefusal, refusal, next, refused, accepted, feed, numberOf}
 
-on-or-finished : (t : Bool) → _≡_ {A = ℕ} (numberOf (if t then Finished else Next)) 0
+pub on-or-finished : (t : Bool) → _≡_ {A = ℕ} (numberOf (if t then Finished else Next)) 0
 on-or-finished true = refl
 on-or-finished false = refl
 
