@@ -21,11 +21,10 @@ use results::RESULTS;
 use results::SEAT_WAGERS;
 use settlement::FileSettlement;
 use settlement::settle_prefix;
-use text::put_bytes;
+use text::put_line;
 use text::put_named;
-use text::put_number;
 use text::up_to;
-ghost use Prim.Native.Nat.{_<_};
+ghost use Prim.Native.Nat.{_≤_};
 ghost use Rattle.io.specs.Counts.{Counts};
 
 const NAME: [u8; 6] = *b"settle";
@@ -35,63 +34,50 @@ const HELD: usize = 34;
 
 const HELD_BYTES: usize = 16 * HELD;
 
-// The bytes beyond those that were read: none where these don't fill their room.
-fn beyond(got: Got) -> Got {
-    if got.failed | (got.bytes < HELD_BYTES) {
+// The bytes beyond the first `n`: none where these don't fill their room.
+fn beyond(n: usize) -> Got {
+    if n < HELD_BYTES {
         return Got {
             bytes: 0,
-            failed: got.failed,
+            failed: false,
         };
     }
     count_rest()
 }
 
-// The amounts of the seat at place `k`.
-fn put_amounts(room: &mut [u8], at: usize, k: usize, results: [u64; RESULTS]) -> usize
-    requires { ⌜ k < 7 ⌝ }
+// The seat of a seat record, 0 for another record.
+fn seat_of(kind: u8, seat: u8) -> u8
+    ensures { λ r. ⌜ r ≤ 7 ⌝ }
 {
-    let mut next = at;
-    for w in 0..SEAT_WAGERS {
-        next = put_named(room, next, b" ", results[SEAT_WAGERS * k + w]);
-    }
-    next
-}
-
-// Of a seat record: the seat's number and its amounts.
-fn put_seat(room: &mut [u8], at: usize, kind: u8, seat: u8, results: [u64; RESULTS]) -> usize {
     if kind != 2 {
-        return at;
-    }
-    if seat < 1 {
-        return at;
+        return 0;
     }
     if 7 < seat {
+        return 0;
+    }
+    seat
+}
+
+// A seat's number and its amounts; nothing for no seat.
+fn put_seat(room: &mut [u8], at: usize, seat: u8, results: [u64; RESULTS]) -> usize
+    requires { ⌜ seat ≤ 7 ⌝ }
+{
+    if seat == 0 {
         return at;
     }
-    let numbered = put_number(room, at, seat as u64);
-    let paid = put_amounts(room, numbered, seat as usize - 1, results);
-    put_bytes(room, paid, b"\n")
+    let end = SEAT_WAGERS * (seat as usize);
+    let start = end - SEAT_WAGERS;
+    put_line(room, at, &[48 + seat], &results[start..end])
 }
 
 // The playing seats are those that have a seat record, and these come by rising numbers.
 fn put_seats(room: &mut [u8], file: [u8; HELD_BYTES], results: [u64; RESULTS]) -> usize {
     let mut next = 0;
     for i in 0..HELD {
-        next = put_seat(room, next, file[16 * i], file[16 * i + 1], results);
+        let seat = seat_of(file[16 * i], file[16 * i + 1]);
+        next = put_seat(room, next, seat, results);
     }
     next
-}
-
-fn put_pool(room: &mut [u8], at: usize, full: u64, paid: u64) -> usize {
-    let next = put_named(room, at, b"pool ", full);
-    let last = put_named(room, next, b" ", paid);
-    put_bytes(room, last, b"\n")
-}
-
-fn put_refused(room: &mut [u8], number: u8, place: usize) -> usize {
-    let next = put_named(room, 0, b"refused ", number as u64);
-    let last = put_named(room, next, b" at ", place as u64);
-    put_bytes(room, last, b"\n")
 }
 
 // Writes the answer, which ends at `last`: the outcome, or a fault where it can't be written.
@@ -103,30 +89,36 @@ fn printed(room: &[u8], last: usize, outcome: Outcome) -> Outcome {
     Outcome::Fault
 }
 
-// The answer is at most 34 lines of 86 bytes and one of 47, so it fits its room.
+// At most 34 lines of 86 bytes and one of 47, so they fit their room.
+fn print_paid(file: [u8; HELD_BYTES], results: [u64; RESULTS], full: u64, paid: u64) -> Outcome {
+    let mut room = io::buffer();
+    let seats = put_seats(&mut room, file, results);
+    let last = put_line(&mut room, seats, b"pool", &[full, paid]);
+    printed(&room, last, Outcome::Done)
+}
+
+fn print_refused(number: u8, place: usize) -> Outcome {
+    let mut room = [0u8; 64];
+    let numbered = put_named(&mut room, 0, b"refused ", number as u64);
+    let last = put_line(&mut room, numbered, b" at", &[place as u64]);
+    printed(&room, last, Outcome::Refused)
+}
+
 fn settled(file: [u8; HELD_BYTES], held: usize, more: usize) -> Outcome
     requires { ⌜ Counts held file ⌝ }
 {
-    let mut room = io::buffer();
     let mut results = [0u64; RESULTS];
     match settle_prefix(&file[..held], more, &mut results) {
-        FileSettlement::Paid { full, paid } => {
-            let pool = put_seats(&mut room, file, results);
-            let last = put_pool(&mut room, pool, full, paid);
-            printed(&room, last, Outcome::Done)
-        }
-        FileSettlement::Refused { number, place } => {
-            let last = put_refused(&mut room, number, place);
-            printed(&room, last, Outcome::Refused)
-        }
+        FileSettlement::Paid { full, paid } => print_paid(file, results, full, paid),
+        FileSettlement::Refused { number, place } => print_refused(number, place),
     }
 }
 
 fn run() -> Outcome {
     let mut file = [0u8; HELD_BYTES];
     let got = read_into(&mut file);
-    let rest = beyond(got);
-    if rest.failed {
+    let rest = beyond(got.bytes);
+    if got.failed | rest.failed {
         tell_unread(&NAME);
         return Outcome::Fault;
     }

@@ -1,7 +1,7 @@
 -- Text in a room: what stands in it once bytes are written from a place on, and the digits of numbers.
 -- Assumes nothing.
 use Prim.Native.Nat.{ℕ, zero, suc, _+_, _-_, _/_, _%_, min}
-use mathlib.Core.List.{List, [], _∷_}
+use mathlib.Core.List.{List, [], _∷_, _++_}
 use lib.Dec.{eqb, ltb}
 use lib.ListN.{length}
 use lib.Seq.{sets}
@@ -23,6 +23,15 @@ digitsThen (suc k) n cs = if eqb n 0 then cs else digitsThen k (n / 10) ((48 + n
 -- A number in decimal: its last digit, 0 too, and in front of it the digits of the rest. The 20 digits of the largest u64 are the most.
 unfoldable pub decimal : ℕ → List ℕ
 decimal n = digitsThen 19 (n / 10) ((48 + n % 10) ∷ [])
+
+-- Numbers in decimal, each after a blank.
+unfoldable pub listed : List ℕ → List ℕ
+listed [] = []
+listed (n ∷ ns) = (32 ∷ decimal n) ++ listed ns
+
+-- Words and numbers, and a newline behind them.
+abbrev pub lineOf : List ℕ → List ℕ → List ℕ
+lineOf words numbers = (words ++ listed numbers) ++ (10 ∷ [])
 
 -- A hexadecimal digit: 0 to 9, a to f.
 unfoldable pub hexDigit : ℕ → ℕ

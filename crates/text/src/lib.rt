@@ -6,7 +6,7 @@ ghost use Prim.Native.Nat.{_≤_, _<_};
 ghost use mathlib.Core.Path.{_≡_};
 ghost use mathlib.Core.List.{_++_};
 ghost use lib.ListN.{length, take, drop};
-ghost use Rattle.text.specs.Text.{behind, written, decimal, hexDigit, hexOf};
+ghost use Rattle.text.specs.Text.{behind, written, decimal, listed, lineOf, hexDigit, hexOf};
 
 pub fn put_bytes(room: &mut [u8], at: usize, bytes: &[u8]) -> usize
     ensures place { λ r. ⌜ r ≡ behind (now (room .entry)) at (now (bytes .entry)) ⌝ }
@@ -67,6 +67,29 @@ pub fn put_named(room: &mut [u8], at: usize, words: &[u8], n: u64) -> usize
 {
     let next = put_bytes(room, at, words);
     put_number(room, next, n)
+}
+
+// Words, and numbers behind them, each after a blank.
+pub fn put_list(room: &mut [u8], at: usize, words: &[u8], numbers: &[u64]) -> usize
+    ensures place { λ r. ⌜ r ≡ behind (now (room .entry)) at (now (words .entry) ++ listed (now (numbers .entry))) ⌝ }
+    ensures text { λ r. ⌜ now (room .exit) ≡ written (now (room .entry)) at (now (words .entry) ++ listed (now (numbers .entry))) ⌝ }
+{
+    let mut next = put_bytes(room, at, words);
+    let mut i = 0;
+    while i < numbers.len() {
+        next = put_named(room, next, b" ", numbers[i]);
+        i += 1;
+    }
+    next
+}
+
+// Words, numbers behind them, each after a blank, and the end of the line.
+pub fn put_line(room: &mut [u8], at: usize, words: &[u8], numbers: &[u64]) -> usize
+    ensures place { λ r. ⌜ r ≡ behind (now (room .entry)) at (lineOf (now (words .entry)) (now (numbers .entry))) ⌝ }
+    ensures text { λ r. ⌜ now (room .exit) ≡ written (now (room .entry)) at (lineOf (now (words .entry)) (now (numbers .entry))) ⌝ }
+{
+    let next = put_list(room, at, words, numbers);
+    put_bytes(room, next, b"\n")
 }
 
 fn hex_digit(d: u8) -> u8

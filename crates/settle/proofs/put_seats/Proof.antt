@@ -14,20 +14,23 @@ abbrev μ-loop : tie.MeasureT-loop
 loop-holds : tie.Need-loop-holds Inv-loop μ-loop
 loop-holds c = search needs
 
-mul-put-seat : tie.Need-mul-put-seat Inv-loop μ-loop
-mul-put-seat c = search needs
+mul-seat-of : tie.Need-mul-seat-of Inv-loop μ-loop
+mul-seat-of c = search needs
 
-array-read-put-seat : tie.Need-array-read-put-seat Inv-loop μ-loop
-array-read-put-seat c = search needs
+array-read-seat-of : tie.Need-array-read-seat-of Inv-loop μ-loop
+array-read-seat-of c = search needs
 
-mul-put-seat-2 : tie.Need-mul-put-seat-2 Inv-loop μ-loop
-mul-put-seat-2 c = search needs
+mul-seat-of-2 : tie.Need-mul-seat-of-2 Inv-loop μ-loop
+mul-seat-of-2 c = search needs
 
-add-put-seat : tie.Need-add-put-seat Inv-loop μ-loop
-add-put-seat c = search needs
+add-seat-of : tie.Need-add-seat-of Inv-loop μ-loop
+add-seat-of c = search needs
 
-array-read-put-seat-2 : tie.Need-array-read-put-seat-2 Inv-loop μ-loop
-array-read-put-seat-2 c = search needs
+array-read-seat-of-2 : tie.Need-array-read-seat-of-2 Inv-loop μ-loop
+array-read-seat-of-2 c = search needs
+
+seat-of-requires : tie.Need-seat-of-requires Inv-loop μ-loop
+seat-of-requires c κs = search needs
 
 put-seat-requires : tie.Need-put-seat-requires Inv-loop μ-loop
 put-seat-requires c κs = search needs
@@ -50,15 +53,14 @@ returns c = search needs
 pub put-seats-spec : {M : Type 1} → statement M
 put-seats-spec =
     tie.close
-    (tie.spec
-    Inv-loop
-    μ-loop
+    (tie.spec Inv-loop μ-loop
     loop-holds
-    mul-put-seat
-    array-read-put-seat
-    mul-put-seat-2
-    add-put-seat
-    array-read-put-seat-2
+    mul-seat-of
+    array-read-seat-of
+    mul-seat-of-2
+    add-seat-of
+    array-read-seat-of-2
+    seat-of-requires
     put-seat-requires
     add-i
     loop-less

@@ -1,4 +1,3 @@
-use mathlib.Core.Path.{_∙_}
 use Rattle.text.specs.Text.{decimal}
 use Rattle.text.proofs.Writes.{write-both, behind-both}
 use borrow.Author.Needs.{needs}
@@ -19,7 +18,7 @@ returns c =
     let p = c .before .before .before .before .before .before .put-bytes .ensures in
     let q = c .before .before .put-number .ensures in
     let a = c .before .before .before .before .before .before .before .before .before .before .args in
-    (simp (p .0, p .1) at (q .0) ∙ behind-both (a .room .now) (a .words .now) (decimal (a .n)) (a .at), simp (p .0, p .1) at (q .1) ∙ write-both (a .room .now) (a .words .now) (decimal (a .n)) (a .at))
+    (simp (q .0, p .0, p .1) (behind-both (a .room .now) (a .words .now) (decimal (a .n)) (a .at)), simp (q .1, p .0, p .1) (write-both (a .room .now) (a .words .now) (decimal (a .n)) (a .at)))
 
 pub put-named-spec : {M : Type 1} → statement M
 put-named-spec =
