@@ -4,12 +4,20 @@
 // docs/COUNTS.md has the working. Every function here is proved safe and ending; what the program prints is tested and
 // not proved.
 ghost use Prim.Native.Nat.{_≤_, _<_};
-use libc::STDOUT_FILENO;
 use names::BoardAnswer;
 use names::FiveAnswer;
 use names::LoAnswer;
 use names::LoName;
 use names::PocketAnswer;
+use pipes::Outcome;
+use pipes::called;
+use pipes::end;
+use pipes::tell_unwritten;
+use pipes::write_out;
+use text::put_line;
+use text::up_to;
+
+const NAME: [u8; 6] = *b"census";
 
 // The entries.
 const FIVE: u8 = 0;
@@ -112,25 +120,46 @@ fn tally(entry: u8, size: usize, hands: u64) -> [u64; 16]
     counts
 }
 
+// Writes a line, which ends at `last`, and says whether it could, which is told where not.
+fn write_line(line: &[u8], last: usize) -> bool {
+    if write_out(up_to(line, last)) {
+        return true;
+    }
+    tell_unwritten(&NAME);
+    false
+}
+
 // The counts of the first rows, on one line.
-fn print_counts(counts: [u64; 16], rows: usize)
+fn write_counts(words: &[u8], counts: [u64; 16], rows: usize) -> bool
     requires { ⌜ rows ≤ 16 ⌝ }
 {
-    for row in 0..rows {
-        io::write_all(STDOUT_FILENO, b" ");
-        io::print_decimal(STDOUT_FILENO, counts[row]);
-    }
-    io::write_all(STDOUT_FILENO, b"\n");
+    let mut line = [0u8; 512];
+    let last = put_line(&mut line, 0, words, &counts[0..rows]);
+    write_line(&line, last)
 }
 
 // A line for each entry: how many hands have each name, in the order of document 01's list, and how many are refused.
+fn ask_all() -> Outcome {
+    if !write_counts(b"five cards:", tally(FIVE, 5, 2598960), 12) {
+        return Outcome::Fault;
+    }
+    if !write_counts(b"Lo Ball:", tally(LO, 5, 2598960), 15) {
+        return Outcome::Fault;
+    }
+    if !write_counts(b"board:", tally(BOARD, 3, 22100), 8) {
+        return Outcome::Fault;
+    }
+    if !write_counts(b"pocket:", tally(POCKET, 2, 1326), 6) {
+        return Outcome::Fault;
+    }
+    Outcome::Done
+}
+
 fn main() {
-    io::write_all(STDOUT_FILENO, b"five cards:");
-    print_counts(tally(FIVE, 5, 2598960), 12);
-    io::write_all(STDOUT_FILENO, b"Lo Ball:");
-    print_counts(tally(LO, 5, 2598960), 15);
-    io::write_all(STDOUT_FILENO, b"board:");
-    print_counts(tally(BOARD, 3, 22100), 8);
-    io::write_all(STDOUT_FILENO, b"pocket:");
-    print_counts(tally(POCKET, 2, 1326), 6);
+    let call = called(&NAME, false);
+    if call.sound {
+        end(&NAME, call, ask_all());
+    } else {
+        end(&NAME, call, Outcome::Fault);
+    }
 }

@@ -6,6 +6,7 @@
 // stdout beside src/ is worked out from document 01. Every function here is proved safe and ending; what the program prints is tested and not proved.
 use pipes::Outcome;
 use pipes::called;
+use pipes::count_rest;
 use pipes::end;
 use pipes::read_into;
 use pipes::tell;
@@ -17,6 +18,7 @@ use ripplehatch::ripplehatch_refused_part;
 use ripplehatch::ripplehatch_settle_file;
 use ripplehatch::ripplehatch_share;
 use text::put_bytes;
+use text::put_line;
 use text::put_named;
 use text::up_to;
 ghost use Prim.Native.Nat.{_≤_};
@@ -37,19 +39,9 @@ fn put_answer(line: &mut [u8], what: &[u8], number: u64) -> usize {
     put_named(line, asked, b": ", number)
 }
 
-fn put_list(line: &mut [u8], at: usize, words: &[u8], list: &[u64]) -> usize {
-    let mut end = put_bytes(line, at, words);
-    let mut i = 0;
-    while i < list.len() {
-        end = put_named(line, end, b" ", list[i]);
-        i += 1;
-    }
-    end
-}
-
-fn write_line(mut line: [u8; LINE], at: usize) -> bool {
-    let last = put_bytes(&mut line, at, b"\n");
-    if write_out(up_to(&line, last)) {
+// Writes a line, which ends at `last`, and says whether it could, which is told where not.
+fn write_line(line: &[u8], last: usize) -> bool {
+    if write_out(up_to(line, last)) {
         return true;
     }
     tell_unwritten(&NAME);
@@ -70,8 +62,8 @@ fn ask_settle(what: &[u8], file: &[u8], room: usize) -> bool
     let in_full = put_named(&mut line, answered, b", pool ", full);
     let as_paid = put_named(&mut line, in_full, b" ", paid);
     let placed = put_named(&mut line, as_paid, b", place ", place as u64);
-    let listed = put_list(&mut line, placed, b", results", lent);
-    write_line(line, listed)
+    let last = put_line(&mut line, placed, b", results", lent);
+    write_line(&line, last)
 }
 
 fn ask_part(what: &[u8], file: &[u8]) -> bool {
@@ -79,8 +71,8 @@ fn ask_part(what: &[u8], file: &[u8]) -> bool {
     let begins = ripplehatch_refused_part(file, &mut long);
     let mut line = [0u8; LINE];
     let answered = put_answer(&mut line, what, begins as u64);
-    let told = put_named(&mut line, answered, b", long ", long as u64);
-    write_line(line, told)
+    let last = put_line(&mut line, answered, b", long", &[long as u64]);
+    write_line(&line, last)
 }
 
 fn ask_name(what: &[u8], cards: &[u8]) -> bool {
@@ -88,8 +80,8 @@ fn ask_name(what: &[u8], cards: &[u8]) -> bool {
     let number = ripplehatch_name_five(cards, &mut name);
     let mut line = [0u8; LINE];
     let answered = put_answer(&mut line, what, number as u64);
-    let told = put_named(&mut line, answered, b", name ", name as u64);
-    write_line(line, told)
+    let last = put_line(&mut line, answered, b", name", &[name as u64]);
+    write_line(&line, last)
 }
 
 fn ask_share(what: &[u8], wins: &[u64], maximum: u64, room: usize) -> bool
@@ -100,8 +92,8 @@ fn ask_share(what: &[u8], wins: &[u64], maximum: u64, room: usize) -> bool
     let number = ripplehatch_share(wins, maximum, lent);
     let mut line = [0u8; LINE];
     let answered = put_answer(&mut line, what, number as u64);
-    let listed = put_list(&mut line, answered, b", shares", lent);
-    write_line(line, listed)
+    let last = put_line(&mut line, answered, b", shares", lent);
+    write_line(&line, last)
 }
 
 fn ask_files(file: [u8; WHOLE]) -> bool {
@@ -168,27 +160,19 @@ fn ask_all(file: [u8; WHOLE]) -> Outcome {
     Outcome::Done
 }
 
-fn first_of(room: [u8; WHOLE + 1]) -> [u8; WHOLE] {
-    let mut file = [0u8; WHOLE];
-    for i in 0..WHOLE {
-        file[i] = room[i];
-    }
-    file
-}
-
-// One byte more is read, to see that there is none.
 fn asked() -> Outcome {
-    let mut room = [0u8; WHOLE + 1];
-    let got = read_into(&mut room);
-    if got.failed {
+    let mut file = [0u8; WHOLE];
+    let got = read_into(&mut file);
+    let rest = count_rest();
+    if got.failed | rest.failed {
         tell_unread(&NAME);
         return Outcome::Fault;
     }
-    if got.bytes != WHOLE {
+    if (got.bytes < WHOLE) | (0 < rest.bytes) {
         tell(&NAME, b"reads a file of 208 bytes");
         return Outcome::Fault;
     }
-    ask_all(first_of(room))
+    ask_all(file)
 }
 
 fn main() {

@@ -26,6 +26,8 @@ use seating::Table;
 use seating::Wagers;
 use settlement::Settlement;
 use text::put_bytes;
+use text::put_line;
+use text::put_list;
 use text::put_named;
 use text::up_to;
 ghost use Prim.Native.Nat.{_≤_};
@@ -118,26 +120,16 @@ fn put_taken(line: &mut [u8], answer: Answer) -> usize {
     }
 }
 
-fn put_amounts(line: &mut [u8], at: usize, amounts: [u64; RESULTS]) -> usize {
-    let mut end = at;
-    for i in 0..RESULTS {
-        end = put_named(line, end, b" ", amounts[i]);
-    }
-    end
-}
-
 fn put_paid(line: &mut [u8], at: usize, amounts: [u64; RESULTS], full: u64, paid: u64) -> usize {
-    let begun = put_bytes(line, at, b" settle paid");
-    let listed = put_amounts(line, begun, amounts);
-    let pooled = put_named(line, listed, b" pool ", full);
-    put_named(line, pooled, b" ", paid)
+    let listed = put_list(line, at, b" settle paid", &amounts);
+    put_line(line, listed, b" pool", &[full, paid])
 }
 
 fn put_settled(line: &mut [u8], at: usize, round: Round) -> usize {
     let mut amounts = [0u64; RESULTS];
     match settlement::settle(round, &mut amounts) {
         Settlement::Paid { full, paid } => put_paid(line, at, amounts, full, paid),
-        Settlement::Refused(number) => put_named(line, at, b" settle refused ", number as u64),
+        Settlement::Refused(number) => put_line(line, at, b" settle refused", &[number as u64]),
     }
 }
 
@@ -146,8 +138,7 @@ fn put_answers(line: &mut [u8], item: [u8; ITEM]) -> usize {
     let step = held::take(round, &item[143..159]);
     let answer = step.answer;
     let taken = put_taken(line, answer);
-    let settled = put_settled(line, taken, round);
-    put_bytes(line, settled, b"\n")
+    put_settled(line, taken, round)
 }
 
 fn answer_item(item: [u8; ITEM]) -> Turn {

@@ -6,15 +6,29 @@
 //
 // stdout beside src/ is worked out from document 01's order: a file 1, 2, then record by record; a held round 17, 1, 16. What the program prints is
 // tested and not proved.
-use libc::STDIN_FILENO;
-use libc::STDOUT_FILENO;
+use pipes::Outcome;
+use pipes::called;
+use pipes::count_rest;
+use pipes::end;
+use pipes::read_into;
+use pipes::tell;
+use pipes::tell_unread;
+use pipes::tell_unwritten;
+use pipes::write_out;
 use reading::read_file;
 use round::Round;
 use settlement::FileSettlement;
 use settlement::Settlement;
 use settlement::settle;
 use settlement::settle_file;
+use text::put_bytes;
+use text::put_line;
+use text::put_list;
+use text::put_named;
+use text::up_to;
 ghost use Prim.Native.Nat.{_≤_};
+
+const NAME: [u8; 5] = *b"lists";
 
 const ROOM: usize = 29;
 
@@ -36,11 +50,6 @@ fn long(k: u8) -> usize
     }
 }
 
-fn print_number(n: u64) {
-    io::write_all(STDOUT_FILENO, b" ");
-    io::print_decimal(STDOUT_FILENO, n);
-}
-
 fn unlike(n: u64) -> u64
     ensures { λ r. ⌜ r ≤ 1 ⌝ }
 {
@@ -58,67 +67,50 @@ fn changed(list: [u64; ROOM]) -> u64 {
     changed
 }
 
-fn print_changed(list: [u64; ROOM]) {
-    io::write_all(STDOUT_FILENO, b", changed");
-    print_number(changed(list));
-    io::write_all(STDOUT_FILENO, b"\n");
-}
-
-fn print_question(what: &[u8], n: usize) {
-    io::write_all(STDOUT_FILENO, what);
-    io::write_all(STDOUT_FILENO, b", list of");
-    print_number(n as u64);
-}
-
-fn print_paid(full: u64, paid: u64) {
-    io::write_all(STDOUT_FILENO, b": pool");
-    print_number(full);
-    print_number(paid);
-}
-
-fn print_refused(number: u8) {
-    io::write_all(STDOUT_FILENO, b": refused");
-    print_number(number as u64);
-}
-
-fn print_place(place: usize) {
-    io::write_all(STDOUT_FILENO, b" at");
-    print_number(place as u64);
-}
-
-fn ask_file(what: &[u8], file: &[u8], n: usize)
-    requires { ⌜ n ≤ 29 ⌝ }
-{
-    print_question(what, n);
-    let mut list = [BEFORE; ROOM];
-    match settle_file(file, &mut list[0..n]) {
-        FileSettlement::Paid { full, paid } => print_paid(full, paid),
-        FileSettlement::Refused { number, place } => {
-            print_refused(number);
-            print_place(place);
-        }
+// Ends the line with how many numbers of the list were changed, and writes it.
+fn write_changed(mut line: [u8; 128], at: usize, list: [u64; ROOM]) -> bool {
+    let last = put_line(&mut line, at, b", changed", &[changed(list)]);
+    if write_out(up_to(&line, last)) {
+        return true;
     }
-    print_changed(list);
+    tell_unwritten(&NAME);
+    false
 }
 
-fn ask_round(what: &[u8], round: Round, n: usize)
+fn put_question(line: &mut [u8], what: &[u8], n: usize) -> usize {
+    let asked = put_bytes(line, 0, what);
+    put_named(line, asked, b", list of ", n as u64)
+}
+
+fn put_refused(line: &mut [u8], at: usize, number: u8, place: usize) -> usize {
+    let refused = put_named(line, at, b": refused ", number as u64);
+    put_named(line, refused, b" at ", place as u64)
+}
+
+fn ask_file(what: &[u8], file: &[u8], n: usize) -> bool
     requires { ⌜ n ≤ 29 ⌝ }
 {
-    print_question(what, n);
+    let mut line = [0u8; 128];
+    let asked = put_question(&mut line, what, n);
     let mut list = [BEFORE; ROOM];
-    match settle(round, &mut list[0..n]) {
-        Settlement::Paid { full, paid } => print_paid(full, paid),
-        Settlement::Refused(number) => print_refused(number),
-    }
-    print_changed(list);
+    let answered = match settle_file(file, &mut list[0..n]) {
+        FileSettlement::Paid { full, paid } => put_list(&mut line, asked, b": pool", &[full, paid]),
+        FileSettlement::Refused { number, place } => put_refused(&mut line, asked, number, place),
+    };
+    write_changed(line, answered, list)
 }
 
-fn ask_files(file: [u8; WHOLE], n: usize)
+fn ask_round(what: &[u8], round: Round, n: usize) -> bool
     requires { ⌜ n ≤ 29 ⌝ }
 {
-    ask_file(b"file", &file, n);
-    ask_file(b"odd file", &file[0..207], n);
-    ask_file(b"empty file", &file[0..0], n);
+    let mut line = [0u8; 128];
+    let asked = put_question(&mut line, what, n);
+    let mut list = [BEFORE; ROOM];
+    let answered = match settle(round, &mut list[0..n]) {
+        Settlement::Paid { full, paid } => put_list(&mut line, asked, b": pool", &[full, paid]),
+        Settlement::Refused(number) => put_named(&mut line, asked, b": refused ", number as u64),
+    };
+    write_changed(line, answered, list)
 }
 
 fn with_a_fifth_part(mut round: Round) -> Round {
@@ -126,32 +118,75 @@ fn with_a_fifth_part(mut round: Round) -> Round {
     round
 }
 
+fn ask_files(file: [u8; WHOLE], n: usize) -> bool
+    requires { ⌜ n ≤ 29 ⌝ }
+{
+    if !ask_file(b"file", &file, n) {
+        return false;
+    }
+    if !ask_file(b"odd file", &file[0..207], n) {
+        return false;
+    }
+    ask_file(b"empty file", &file[0..0], n)
+}
+
 // The round that a file leads to.
-fn ask_read(what: &[u8], file: &[u8], n: usize)
+fn ask_read(what: &[u8], file: &[u8], n: usize) -> bool
     requires { ⌜ n ≤ 29 ⌝ }
 {
-    ask_round(what, read_file(file).round, n);
+    ask_round(what, read_file(file).round, n)
 }
 
-fn ask_changed(what: &[u8], file: &[u8], n: usize)
+fn ask_changed(what: &[u8], file: &[u8], n: usize) -> bool
     requires { ⌜ n ≤ 29 ⌝ }
 {
-    ask_round(what, with_a_fifth_part(read_file(file).round), n);
+    ask_round(what, with_a_fifth_part(read_file(file).round), n)
 }
 
-fn ask_rounds(file: [u8; WHOLE], n: usize)
+fn ask_rounds(file: [u8; WHOLE], n: usize) -> bool
     requires { ⌜ n ≤ 29 ⌝ }
 {
-    ask_read(b"round", &file, n);
-    ask_read(b"fresh round", &file[0..0], n);
-    ask_changed(b"false round", &file, n);
+    if !ask_read(b"round", &file, n) {
+        return false;
+    }
+    if !ask_read(b"fresh round", &file[0..0], n) {
+        return false;
+    }
+    ask_changed(b"false round", &file, n)
+}
+
+fn ask_all(file: [u8; WHOLE]) -> Outcome {
+    for k in 0..4 {
+        if !ask_files(file, long(k)) {
+            return Outcome::Fault;
+        }
+        if !ask_rounds(file, long(k)) {
+            return Outcome::Fault;
+        }
+    }
+    Outcome::Done
+}
+
+fn run() -> Outcome {
+    let mut file = [0u8; WHOLE];
+    let got = read_into(&mut file);
+    let rest = count_rest();
+    if got.failed | rest.failed {
+        tell_unread(&NAME);
+        return Outcome::Fault;
+    }
+    if (got.bytes < WHOLE) | (0 < rest.bytes) {
+        tell(&NAME, b"reads a file of 208 bytes");
+        return Outcome::Fault;
+    }
+    ask_all(file)
 }
 
 fn main() {
-    let mut file = [0u8; WHOLE];
-    io::read_full(STDIN_FILENO, &mut file);
-    for k in 0..4 {
-        ask_files(file, long(k));
-        ask_rounds(file, long(k));
+    let call = called(&NAME, true);
+    if call.sound {
+        end(&NAME, call, run());
+    } else {
+        end(&NAME, call, Outcome::Fault);
     }
 }

@@ -6,11 +6,20 @@
 // docs/COUNTS.md has the working. Every function here is proved safe and ending; what the program prints is tested and
 // not proved.
 ghost use Prim.Native.Nat.{_≤_};
-use libc::STDOUT_FILENO;
 use names::BoardAnswer;
 use names::FiveAnswer;
 use names::LoAnswer;
 use names::PocketAnswer;
+use pipes::Outcome;
+use pipes::called;
+use pipes::end;
+use pipes::tell_unwritten;
+use pipes::write_out;
+use text::put_bytes;
+use text::put_named;
+use text::up_to;
+
+const NAME: [u8; 8] = *b"refusals";
 
 // The entries.
 const FIVE: u8 = 0;
@@ -62,48 +71,77 @@ fn number_of(entry: u8, cards: &[u8]) -> u8 {
     }
 }
 
-fn print_next(number: u8) {
-    io::write_all(STDOUT_FILENO, b" ");
-    io::print_decimal(STDOUT_FILENO, number as u64);
+// Writes a line, which ends at `last`, and says whether it could, which is told where not.
+fn write_line(line: &[u8], last: usize) -> bool {
+    if write_out(up_to(line, last)) {
+        return true;
+    }
+    tell_unwritten(&NAME);
+    false
+}
+
+fn put_next(line: &mut [u8], at: usize, number: u8) -> usize {
+    put_named(line, at, b" ", number as u64)
 }
 
 // The number for none to six of the cards.
-fn print_sizes(entry: u8, cards: [u8; 6]) {
+fn put_sizes(line: &mut [u8], at: usize, entry: u8, cards: [u8; 6]) -> usize {
+    let mut next = at;
     for size in 0..7 {
-        print_next(number_of(entry, &cards[0..size]));
+        next = put_next(line, next, number_of(entry, &cards[0..size]));
     }
+    next
 }
 
 // The number for sound cards with one of them changed to this card, at each place.
-fn print_changes(entry: u8, size: usize, card: u8)
+fn put_changes(line: &mut [u8], at: usize, entry: u8, size: usize, card: u8) -> usize
     requires { ⌜ size ≤ 6 ⌝ }
 {
+    let mut next = at;
     for place in 0..size {
         let mut cards = SOUND;
         cards[place] = card;
-        print_next(number_of(entry, &cards[0..size]));
+        next = put_next(line, next, number_of(entry, &cards[0..size]));
     }
+    next
 }
 
 // None to six sound cards, none to six equal ones; then changes to a card 52, to a card 255, and to the first card.
-fn print_numbers(entry: u8, size: usize)
+fn ask(words: &[u8], entry: u8, size: usize) -> bool
     requires { ⌜ size ≤ 6 ⌝ }
 {
-    print_sizes(entry, SOUND);
-    print_sizes(entry, [0; 6]);
-    print_changes(entry, size, 52);
-    print_changes(entry, size, 255);
-    print_changes(entry, size, 0);
-    io::write_all(STDOUT_FILENO, b"\n");
+    let mut line = [0u8; 256];
+    let named = put_bytes(&mut line, 0, words);
+    let sound = put_sizes(&mut line, named, entry, SOUND);
+    let equal = put_sizes(&mut line, sound, entry, [0; 6]);
+    let above = put_changes(&mut line, equal, entry, size, 52);
+    let far = put_changes(&mut line, above, entry, size, 255);
+    let repeated = put_changes(&mut line, far, entry, size, 0);
+    let last = put_bytes(&mut line, repeated, b"\n");
+    write_line(&line, last)
+}
+
+fn ask_all() -> Outcome {
+    if !ask(b"five cards:", FIVE, 5) {
+        return Outcome::Fault;
+    }
+    if !ask(b"Lo Ball:", LO, 5) {
+        return Outcome::Fault;
+    }
+    if !ask(b"board:", BOARD, 3) {
+        return Outcome::Fault;
+    }
+    if !ask(b"pocket:", POCKET, 2) {
+        return Outcome::Fault;
+    }
+    Outcome::Done
 }
 
 fn main() {
-    io::write_all(STDOUT_FILENO, b"five cards:");
-    print_numbers(FIVE, 5);
-    io::write_all(STDOUT_FILENO, b"Lo Ball:");
-    print_numbers(LO, 5);
-    io::write_all(STDOUT_FILENO, b"board:");
-    print_numbers(BOARD, 3);
-    io::write_all(STDOUT_FILENO, b"pocket:");
-    print_numbers(POCKET, 2);
+    let call = called(&NAME, false);
+    if call.sound {
+        end(&NAME, call, ask_all());
+    } else {
+        end(&NAME, call, Outcome::Fault);
+    }
 }

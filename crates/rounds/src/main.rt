@@ -2,73 +2,89 @@
 //
 // Each file of the stream comes after its length, two bytes, low byte first. Printed are, of an accepted file, `paid`, the 28 amounts in cents, `pool`
 // and the pool in dollars, full and as paid; of a refused one `refused N at R`, the refusal's number and its place. Then comes `part` with the
-// byte at which the refused part begins and its bytes as hexadecimal digits; of an accepted file the part is the empty one at the end.
+// byte at which the refused part begins and its bytes as hexadecimal digits; of an accepted file the part is the empty one at the end. A stream that ends inside a
+// length or a file is told on standard error.
 //
 // The files in stdin beside src/ and the lines in stdout come from the settler in oracle/, which makes both again at every test. Every function
 // here is proved safe and ending; what the program prints is tested and not proved.
-use libc::STDIN_FILENO;
-use libc::STDOUT_FILENO;
+use pipes::Outcome;
+use pipes::called;
+use pipes::end;
+use pipes::read_into;
+use pipes::tell;
+use pipes::tell_unread;
+use pipes::tell_unwritten;
+use pipes::write_out;
 use reading::refused_part;
 use records::word_at;
 use results::RESULTS;
 use ripplehatch::ripplehatch_refused_part;
 use settlement::FileSettlement;
 use settlement::settle_file;
+use text::put_bytes;
+use text::put_hex;
+use text::put_list;
+use text::put_named;
+use text::up_to;
 ghost use Prim.Native.Nat.{_≤_};
 ghost use mathlib.Core.Path.{_≡_};
 ghost use lib.ListN.{length};
 
-// No file is as long: a length has two bytes.
-const TOO_LONG: usize = 65536;
+const NAME: [u8; 6] = *b"rounds";
 
 // Every loop must end: this one after 2^40 files.
 const MOST_FILES: usize = 1099511627776;
 
-fn print_number(n: u64) {
-    io::write_all(STDOUT_FILENO, b" ");
-    io::print_decimal(STDOUT_FILENO, n);
+// What became of one turn.
+enum Turn {
+    Answered,
+    End,
+    Fault,
 }
 
-fn print_amounts(amounts: [u64; RESULTS]) {
-    io::write_all(STDOUT_FILENO, b"paid");
-    for i in 0..RESULTS {
-        print_number(amounts[i]);
+// The length of the next file, where there is one.
+enum Next {
+    Long(u16),
+    End,
+    Fault,
+}
+
+fn put_paid(line: &mut [u8], amounts: [u64; RESULTS], full: u64, paid: u64) -> usize {
+    let listed = put_list(line, 0, b"paid", &amounts);
+    put_list(line, listed, b" pool", &[full, paid])
+}
+
+fn put_refused(line: &mut [u8], number: u8, place: usize) -> usize {
+    let numbered = put_named(line, 0, b"refused ", number as u64);
+    put_named(line, numbered, b" at ", place as u64)
+}
+
+fn put_settled(line: &mut [u8], file: &[u8]) -> usize {
+    let mut amounts = [0u64; RESULTS];
+    match settle_file(file, &mut amounts) {
+        FileSettlement::Paid { full, paid } => put_paid(line, amounts, full, paid),
+        FileSettlement::Refused { number, place } => put_refused(line, number, place),
     }
 }
 
-fn print_pool(full: u64, paid: u64) {
-    io::write_all(STDOUT_FILENO, b" pool");
-    print_number(full);
-    print_number(paid);
-}
-
-fn print_refused(number: u8, place: usize) {
-    io::write_all(STDOUT_FILENO, b"refused");
-    print_number(number as u64);
-    io::write_all(STDOUT_FILENO, b" at");
-    print_number(place as u64);
-}
-
-fn print_byte(byte: u8) {
-    io::print_hex(STDOUT_FILENO, byte as u64, 2);
-}
-
-fn print_bytes(bytes: &[u8]) {
+fn put_digits(line: &mut [u8], at: usize, bytes: &[u8]) -> usize {
+    let mut next = at;
     let mut i = 0;
     while i < bytes.len() {
-        print_byte(bytes[i]);
+        next = put_hex(line, next, bytes[i]);
         i += 1;
     }
+    next
 }
 
-fn print_part(begins: u64, part: &[u8]) {
-    io::write_all(STDOUT_FILENO, b" part");
-    print_number(begins);
-    if part.len() != 0 {
-        io::write_all(STDOUT_FILENO, b" ");
+fn put_part(line: &mut [u8], at: usize, begins: usize, part: &[u8]) -> usize {
+    let begun = put_named(line, at, b" part ", begins as u64);
+    if part.len() == 0 {
+        return put_bytes(line, begun, b"\n");
     }
-    print_bytes(part);
-    io::write_all(STDOUT_FILENO, b"\n");
+    let spaced = put_bytes(line, begun, b" ");
+    let spelled = put_digits(line, spaced, part);
+    put_bytes(line, spelled, b"\n")
 }
 
 // The byte at which the refused part begins.
@@ -77,62 +93,78 @@ fn begins(file: &[u8]) -> usize {
     ripplehatch_refused_part(file, &mut long)
 }
 
-fn print_answer(file: &[u8]) {
-    let mut amounts = [0u64; RESULTS];
-    match settle_file(file, &mut amounts) {
-        FileSettlement::Paid { full, paid } => {
-            print_amounts(amounts);
-            print_pool(full, paid);
-        }
-        FileSettlement::Refused { number, place } => print_refused(number, place),
+// A line is at most 28 amounts of 20 digits, the pool, and a part of 16 bytes, so it fits its room.
+fn write_answer(file: &[u8]) -> Turn {
+    let mut line = [0u8; 1024];
+    let settled = put_settled(&mut line, file);
+    let last = put_part(&mut line, settled, begins(file), refused_part(file));
+    if write_out(up_to(&line, last)) {
+        return Turn::Answered;
     }
-    print_part(begins(file) as u64, refused_part(file));
+    tell_unwritten(&NAME);
+    Turn::Fault
 }
 
-// The length of the next file, and TOO_LONG at the end of the stream.
-fn next_length() -> usize
-    ensures { λ r. ⌜ r ≤ 65536 ⌝ }
-{
+fn next_length() -> Next {
     let mut length = [0u8; 2];
-    let n = io::read_full(STDIN_FILENO, &mut length);
-    if n == 1 {
-        io::write_all(STDOUT_FILENO, b"the stream ends inside a length\n");
+    let got = read_into(&mut length);
+    if got.failed {
+        tell_unread(&NAME);
+        return Next::Fault;
     }
-    if n < 2 {
-        return TOO_LONG;
+    if got.bytes == 1 {
+        tell(&NAME, b"the stream ends inside a length");
+        return Next::Fault;
     }
-    word_at(&length, 0) as usize
+    if got.bytes == 0 {
+        return Next::End;
+    }
+    Next::Long(word_at(&length, 0))
 }
 
-// Reads a file that fills the list, answers it, and says whether it was all there.
-fn answer_file(file: &mut [u8]) -> bool {
-    let found = io::read_full(STDIN_FILENO, file);
-    if found < file.len() {
-        io::write_all(STDOUT_FILENO, b"the stream ends inside a file\n");
-        return false;
+// Reads a file that fills the list, and answers it.
+fn answer_file(file: &mut [u8]) -> Turn {
+    let got = read_into(file);
+    if got.failed {
+        tell_unread(&NAME);
+        return Turn::Fault;
     }
-    print_answer(file);
-    true
+    if got.bytes < file.len() {
+        tell(&NAME, b"the stream ends inside a file");
+        return Turn::Fault;
+    }
+    write_answer(file)
 }
 
-// Answers the next file, and says whether there was one.
-fn answer_next(room: &mut [u8]) -> bool
+fn answer_next(room: &mut [u8]) -> Turn
     requires { ⌜ length (now room) ≡ 65536 ⌝ }
 {
-    let n = next_length();
-    if n == TOO_LONG {
-        return false;
+    match next_length() {
+        Next::Long(n) => answer_file(&mut room[0..n as usize]),
+        Next::End => Turn::End,
+        Next::Fault => Turn::Fault,
     }
-    answer_file(&mut room[0..n])
 }
 
-fn main() {
+fn answer_all() -> Outcome {
     let mut room = io::large_buffer();
     let mut files = 0;
     while files < MOST_FILES {
-        if !answer_next(&mut room) {
-            break;
+        match answer_next(&mut room) {
+            Turn::Answered => {}
+            Turn::End => return Outcome::Done,
+            Turn::Fault => return Outcome::Fault,
         }
         files += 1;
+    }
+    Outcome::Done
+}
+
+fn main() {
+    let call = called(&NAME, true);
+    if call.sound {
+        end(&NAME, call, answer_all());
+    } else {
+        end(&NAME, call, Outcome::Fault);
     }
 }

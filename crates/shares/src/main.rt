@@ -4,8 +4,19 @@
 // docs/COUNTS.md has the working. Every function here is proved safe and ending; what the program prints is tested and
 // not proved.
 ghost use Prim.Native.Nat.{_≤_};
-use libc::STDOUT_FILENO;
+use pipes::Outcome;
+use pipes::called;
+use pipes::end;
+use pipes::tell_unwritten;
+use pipes::write_out;
 use pool::Shared;
+use text::put_bytes;
+use text::put_line;
+use text::put_list;
+use text::put_named;
+use text::up_to;
+
+const NAME: [u8; 6] = *b"shares";
 
 // The maximum, how long the lent list is, how many of the eight wins are shared, the wins.
 const POOLS: [[u64; 11]; 17] = [
@@ -40,64 +51,64 @@ const POOLS: [[u64; 11]; 17] = [
     [25000, 7, 7, 1, 2, 3, 4, 5, 6, 7, 0], // seven in full
 ];
 
-fn print_next(number: u64) {
-    io::write_all(STDOUT_FILENO, b" ");
-    io::print_decimal(STDOUT_FILENO, number);
-}
-
-fn print_dollars(list: &[u64]) {
-    let mut i = 0;
-    while i < list.len() {
-        print_next(list[i]);
-        i += 1;
+// Writes a line, which ends at `last`, and says whether it could, which is told where not.
+fn write_line(line: &[u8], last: usize) -> bool {
+    if write_out(up_to(line, last)) {
+        return true;
     }
+    tell_unwritten(&NAME);
+    false
 }
 
-fn print_refused(number: u8) {
-    io::write_all(STDOUT_FILENO, b": refused");
-    print_next(number as u64);
-}
-
-fn print_shared(answer: Shared) {
+fn put_shared(line: &mut [u8], at: usize, answer: Shared) -> usize {
     match answer {
-        Shared::Full => {
-            io::write_all(STDOUT_FILENO, b": full");
-        }
-        Shared::Cut => {
-            io::write_all(STDOUT_FILENO, b": cut");
-        }
-        Shared::Refused(number) => print_refused(number),
+        Shared::Full => put_bytes(line, at, b": full"),
+        Shared::Cut => put_bytes(line, at, b": cut"),
+        Shared::Refused(number) => put_named(line, at, b": refused ", number as u64),
     }
 }
 
-// The answer, and what a lent list of this length, whose amounts were 77, then holds.
-fn answer(maximum: u64, wins: &[u64], room: usize)
+// The maximum and the wins; then the answer, and what a lent list of this length, whose amounts were 77, then holds.
+fn ask(maximum: u64, wins: &[u64], room: usize) -> bool
     requires { ⌜ room ≤ 8 ⌝ }
 {
     let mut lent = [77u64; 8];
     let list: &mut [u64] = &mut lent[0..room];
-    print_shared(pool::share(wins, maximum, list));
-    print_dollars(list);
-    io::write_all(STDOUT_FILENO, b"\n");
+    let answer = pool::share(wins, maximum, list);
+    let mut line = [0u8; 1024];
+    let asked = put_named(&mut line, 0, b"share ", maximum);
+    let shared = put_list(&mut line, asked, b"", wins);
+    let answered = put_shared(&mut line, shared, answer);
+    let last = put_line(&mut line, answered, b"", list);
+    write_line(&line, last)
 }
 
-// The maximum and the wins; then the answer.
-fn ask(row: [u64; 11]) {
+fn ask_row(row: [u64; 11]) -> bool {
     let room = row[1] as usize;
     let many = row[2] as usize;
     if 8 < room {
-        return;
+        return true;
     }
-    if many <= 8 {
-        io::write_all(STDOUT_FILENO, b"share");
-        print_next(row[0]);
-        print_dollars(&row[3..3 + many]);
-        answer(row[0], &row[3..3 + many], room);
+    if 8 < many {
+        return true;
     }
+    ask(row[0], &row[3..3 + many], room)
+}
+
+fn ask_all() -> Outcome {
+    for i in 0..17 {
+        if !ask_row(POOLS[i]) {
+            return Outcome::Fault;
+        }
+    }
+    Outcome::Done
 }
 
 fn main() {
-    for i in 0..17 {
-        ask(POOLS[i]);
+    let call = called(&NAME, false);
+    if call.sound {
+        end(&NAME, call, ask_all());
+    } else {
+        end(&NAME, call, Outcome::Fault);
     }
 }

@@ -4,12 +4,21 @@
 // docs/COUNTS.md has the working. Every function here is proved safe and ending; what the program prints is tested and
 // not proved.
 ghost use Prim.Native.Nat.{_≤_};
-use libc::STDOUT_FILENO;
 use names::BoardAnswer;
 use names::FiveAnswer;
 use names::LoAnswer;
 use names::PocketAnswer;
 use pays::Pay;
+use pipes::Outcome;
+use pipes::called;
+use pipes::end;
+use pipes::tell_unwritten;
+use pipes::write_out;
+use text::put_bytes;
+use text::put_list;
+use text::up_to;
+
+const NAME: [u8; 6] = *b"wagers";
 
 // The entries.
 const FIVE: u8 = 0;
@@ -95,44 +104,59 @@ fn cards_of(entry: u8) -> usize
     }
 }
 
-fn write(text: &[u8]) {
-    io::write_all(STDOUT_FILENO, text);
+// Writes a line, which ends at `last`, and says whether it could, which is told where not.
+fn write_line(line: &[u8], last: usize) -> bool {
+    if write_out(up_to(line, last)) {
+        return true;
+    }
+    tell_unwritten(&NAME);
+    false
 }
 
-fn print_entry(entry: u8) {
+fn put_entry(line: &mut [u8], entry: u8) -> usize {
     match entry {
-        0 => write(b"base"),
-        1 => write(b"Lo Ball"),
-        2 => write(b"Board"),
-        _ => write(b"Pocket"),
+        0 => put_bytes(line, 0, b"base"),
+        1 => put_bytes(line, 0, b"Lo Ball"),
+        2 => put_bytes(line, 0, b"Board"),
+        _ => put_bytes(line, 0, b"Pocket"),
     }
 }
 
-fn print_next(number: u64) {
-    write(b" ");
-    io::print_decimal(STDOUT_FILENO, number);
-}
-
-// The cents handed back, and whether the odds are above 50.
-fn print_pay(pay: Pay, dollars: u8) {
-    print_next(pays::handed_back(pay, dollars as u32));
+// Whether the odds are above 50, and the end of the line.
+fn put_above(line: &mut [u8], at: usize, pay: Pay) -> usize {
     if pays::is_above_fifty(pay) {
-        write(b" above 50");
+        return put_bytes(line, at, b" above 50\n");
     }
-    write(b"\n");
+    put_bytes(line, at, b"\n")
 }
 
-// The wager, its table and the dollars; then the answer.
-fn print_wager(row: [u8; 8]) {
-    let end = 3 + cards_of(row[0]);
-    print_entry(row[0]);
-    print_next(row[1] as u64);
-    print_next(row[2] as u64);
-    print_pay(pay_of(row[0], row[1], &row[3..end]), row[2]);
+// The wager, its table and the dollars; then the cents handed back, and whether the odds are above 50.
+fn ask(row: [u8; 8]) -> bool {
+    let after = 3 + cards_of(row[0]);
+    let pay = pay_of(row[0], row[1], &row[3..after]);
+    let cents = pays::handed_back(pay, row[2] as u32);
+    let numbers = [row[1] as u64, row[2] as u64, cents];
+    let mut line = [0u8; 128];
+    let named = put_entry(&mut line, row[0]);
+    let listed = put_list(&mut line, named, b"", &numbers);
+    let last = put_above(&mut line, listed, pay);
+    write_line(&line, last)
+}
+
+fn ask_all() -> Outcome {
+    for i in 0..22 {
+        if !ask(WAGERS[i]) {
+            return Outcome::Fault;
+        }
+    }
+    Outcome::Done
 }
 
 fn main() {
-    for i in 0..22 {
-        print_wager(WAGERS[i]);
+    let call = called(&NAME, false);
+    if call.sound {
+        end(&NAME, call, ask_all());
+    } else {
+        end(&NAME, call, Outcome::Fault);
     }
 }

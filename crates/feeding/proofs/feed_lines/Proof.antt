@@ -1,6 +1,6 @@
 use Prim.Native.Nat.{_≤_, _+_, _-_}
-use lib.ListN.{length}
 use Rattle.columns.proofs.Lines.{line-within}
+use lib.ListN.{length}
 use borrow.Author.Needs.{needs}
 use Rattle.feeding.proofs.feed_lines.Statement.{statement}
 use Rattle.feeding.proofs.feed_lines.Tie as tie
@@ -36,10 +36,13 @@ part-feed-line-end c =
 feed-line-requires : tie.Need-feed-line-requires Inv-loop μ-loop
 feed-line-requires c κs = search needs
 
+returns : tie.Need-returns Inv-loop μ-loop
+returns c = search needs
+
 add-at : tie.Need-add-at Inv-loop μ-loop
 add-at c =
-    let text = c .before .before .before .before .before .before .before .args .text .now in
-    let at = c .before .before .before .before .loop .at in
+    let text = c .before .before .before .before .before .before .before .before .before .before .args .text .now in
+    let at = c .before .before .before .before .before .before .before .loop .at in
     let h : at ≤ length text = search needs in
     search (needs, line-within text at h)
 
@@ -48,13 +51,13 @@ loop-less c = search needs
 
 loop-again : tie.Need-loop-again Inv-loop μ-loop
 loop-again c =
-    let text = c .before .before .before .before .before .before .before .args .text .now in
-    let at = c .before .before .before .before .loop .at in
+    let text = c .before .before .before .before .before .before .before .before .before .before .args .text .now in
+    let at = c .before .before .before .before .before .before .before .loop .at in
     let h : at ≤ length text = search needs in
     search (needs, line-within text at h)
 
-returns : tie.Need-returns Inv-loop μ-loop
-returns c = search needs
+returns-2 : tie.Need-returns-2 Inv-loop μ-loop
+returns-2 c = search needs
 
 pub feed-lines-spec : {M : Type 1} → statement M
 feed-lines-spec =
@@ -69,7 +72,8 @@ feed-lines-spec =
     part-feed-line-start
     part-feed-line-end
     feed-line-requires
+    returns
     add-at
     loop-less
     loop-again
-    returns)
+    returns-2)

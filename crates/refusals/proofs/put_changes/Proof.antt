@@ -1,13 +1,15 @@
 use Prim.Native.Nat.{_≤_, _-_}
+use mathlib.Core.Path.{_≡_}
+use lib.ListN.{length}
 use borrow.Author.Needs.{needs}
-use Rattle.refusals.proofs.print_changes.Statement.{statement}
-use Rattle.refusals.proofs.print_changes.Tie as tie
+use Rattle.refusals.proofs.put_changes.Statement.{statement}
+use Rattle.refusals.proofs.put_changes.Tie as tie
 
 abbrev Inv-loop : tie.InvT-loop
-Inv-loop entry size card place₀ place = place ≤ size
+Inv-loop line₀ at entry size card next₀ place₀ line next place = (place ≤ size) × (length line ≡ length line₀)
 
 abbrev μ-loop : tie.MeasureT-loop
-μ-loop entry size card place₀ place = size - place
+μ-loop line₀ at entry size card next₀ place₀ line next place = size - place
 
 loop-holds : tie.Need-loop-holds Inv-loop μ-loop
 loop-holds c = search needs
@@ -27,8 +29,8 @@ part-number-of-end c = search needs
 number-of-requires : tie.Need-number-of-requires Inv-loop μ-loop
 number-of-requires c κs = search needs
 
-print-next-requires : tie.Need-print-next-requires Inv-loop μ-loop
-print-next-requires c κs = search needs
+put-next-requires : tie.Need-put-next-requires Inv-loop μ-loop
+put-next-requires c κs = search needs
 
 add-place : tie.Need-add-place Inv-loop μ-loop
 add-place c = search needs
@@ -39,11 +41,14 @@ loop-less c = search needs
 loop-again : tie.Need-loop-again Inv-loop μ-loop
 loop-again c = search needs
 
+same-length : tie.Need-same-length Inv-loop μ-loop
+same-length c = search needs
+
 returns : tie.Need-returns Inv-loop μ-loop
 returns c = search needs
 
-pub print-changes-spec : {M : Type 1} → statement M
-print-changes-spec =
+pub put-changes-spec : {M : Type 1} → statement M
+put-changes-spec =
     tie.close
     (tie.spec
     Inv-loop
@@ -54,8 +59,9 @@ print-changes-spec =
     part-number-of-start
     part-number-of-end
     number-of-requires
-    print-next-requires
+    put-next-requires
     add-place
     loop-less
     loop-again
+    same-length
     returns)

@@ -2,8 +2,8 @@ use Prim.Native.Nat.{_≤_, _-_}
 use mathlib.Core.Path.{_≡_}
 use lib.ListN.{length}
 use borrow.Author.Needs.{needs}
-use Rattle.rounds.proofs.main.Statement.{statement}
-use Rattle.rounds.proofs.main.Tie as tie
+use Rattle.rounds.proofs.answer_all.Statement.{statement}
+use Rattle.rounds.proofs.answer_all.Tie as tie
 
 abbrev Inv-loop : tie.InvT-loop
 Inv-loop room₀ files₀ room files = (65536 ≡ length room) × (files ≤ 1099511627776)
@@ -23,6 +23,21 @@ slice-aggregate-answer-next c = search needs
 answer-next-requires : tie.Need-answer-next-requires Inv-loop μ-loop
 answer-next-requires c κs = search needs
 
+enum-told : tie.Need-enum-told Inv-loop μ-loop
+enum-told c = search needs
+
+enum-told-2 : tie.Need-enum-told-2 Inv-loop μ-loop
+enum-told-2 c = search needs
+
+returns : tie.Need-returns Inv-loop μ-loop
+returns c = search needs
+
+enum-told-3 : tie.Need-enum-told-3 Inv-loop μ-loop
+enum-told-3 c = search needs
+
+returns-2 : tie.Need-returns-2 Inv-loop μ-loop
+returns-2 c = search needs
+
 add-files : tie.Need-add-files Inv-loop μ-loop
 add-files c = search needs
 
@@ -32,14 +47,11 @@ loop-less c = search needs
 loop-again : tie.Need-loop-again Inv-loop μ-loop
 loop-again c = search needs
 
-returns : tie.Need-returns Inv-loop μ-loop
-returns c = search needs
+returns-3 : tie.Need-returns-3 Inv-loop μ-loop
+returns-3 c = search needs
 
-returns-2 : tie.Need-returns-2 Inv-loop μ-loop
-returns-2 c = search needs
-
-pub main-spec : {M : Type 1} → statement M
-main-spec =
+pub answer-all-spec : {M : Type 1} → statement M
+answer-all-spec =
     tie.close
     (tie.spec
     Inv-loop
@@ -48,8 +60,12 @@ main-spec =
     loop-holds
     slice-aggregate-answer-next
     answer-next-requires
+    enum-told
+    enum-told-2
+    returns
+    enum-told-3
+    returns-2
     add-files
     loop-less
     loop-again
-    returns
-    returns-2)
+    returns-3)

@@ -1,13 +1,15 @@
 use Prim.Native.Nat.{_≤_, _-_}
+use mathlib.Core.Path.{_≡_}
+use lib.ListN.{length}
 use borrow.Author.Needs.{needs}
-use Rattle.refusals.proofs.print_sizes.Statement.{statement}
-use Rattle.refusals.proofs.print_sizes.Tie as tie
+use Rattle.refusals.proofs.put_sizes.Statement.{statement}
+use Rattle.refusals.proofs.put_sizes.Tie as tie
 
 abbrev Inv-loop : tie.InvT-loop
-Inv-loop entry cards size₀ size = size ≤ 7
+Inv-loop line₀ at entry cards next₀ size₀ line next size = (size ≤ 7) × (length line ≡ length line₀)
 
 abbrev μ-loop : tie.MeasureT-loop
-μ-loop entry cards size₀ size = 7 - size
+μ-loop line₀ at entry cards next₀ size₀ line next size = 7 - size
 
 loop-holds : tie.Need-loop-holds Inv-loop μ-loop
 loop-holds c = search needs
@@ -24,8 +26,8 @@ part-number-of-end c = search needs
 number-of-requires : tie.Need-number-of-requires Inv-loop μ-loop
 number-of-requires c κs = search needs
 
-print-next-requires : tie.Need-print-next-requires Inv-loop μ-loop
-print-next-requires c κs = search needs
+put-next-requires : tie.Need-put-next-requires Inv-loop μ-loop
+put-next-requires c κs = search needs
 
 add-size : tie.Need-add-size Inv-loop μ-loop
 add-size c = search needs
@@ -36,11 +38,14 @@ loop-less c = search needs
 loop-again : tie.Need-loop-again Inv-loop μ-loop
 loop-again c = search needs
 
+same-length : tie.Need-same-length Inv-loop μ-loop
+same-length c = search needs
+
 returns : tie.Need-returns Inv-loop μ-loop
 returns c = search needs
 
-pub print-sizes-spec : {M : Type 1} → statement M
-print-sizes-spec =
+pub put-sizes-spec : {M : Type 1} → statement M
+put-sizes-spec =
     tie.close
     (tie.spec
     Inv-loop
@@ -50,8 +55,9 @@ print-sizes-spec =
     part-number-of-start
     part-number-of-end
     number-of-requires
-    print-next-requires
+    put-next-requires
     add-size
     loop-less
     loop-again
+    same-length
     returns)

@@ -1,13 +1,13 @@
 use Prim.Native.Nat.{_≤_, _-_}
 use borrow.Author.Needs.{needs}
-use Rattle.shares.proofs.main.Statement.{statement}
-use Rattle.shares.proofs.main.Tie as tie
+use Rattle.wagers.proofs.ask_all.Statement.{statement}
+use Rattle.wagers.proofs.ask_all.Tie as tie
 
 abbrev Inv-loop : tie.InvT-loop
-Inv-loop i₀ i = i ≤ 17
+Inv-loop i₀ i = i ≤ 22
 
 abbrev μ-loop : tie.MeasureT-loop
-μ-loop i₀ i = 17 - i
+μ-loop i₀ i = 22 - i
 
 loop-holds : tie.Need-loop-holds Inv-loop μ-loop
 loop-holds c = search needs
@@ -21,6 +21,9 @@ array-copy-out-ask c = search needs
 ask-requires : tie.Need-ask-requires Inv-loop μ-loop
 ask-requires c κs = search needs
 
+returns : tie.Need-returns Inv-loop μ-loop
+returns c = search needs
+
 add-i : tie.Need-add-i Inv-loop μ-loop
 add-i c = search needs
 
@@ -30,11 +33,11 @@ loop-less c = search needs
 loop-again : tie.Need-loop-again Inv-loop μ-loop
 loop-again c = search needs
 
-returns : tie.Need-returns Inv-loop μ-loop
-returns c = search needs
+returns-2 : tie.Need-returns-2 Inv-loop μ-loop
+returns-2 c = search needs
 
-pub main-spec : {M : Type 1} → statement M
-main-spec =
+pub ask-all-spec : {M : Type 1} → statement M
+ask-all-spec =
     tie.close
     (tie.spec
     Inv-loop
@@ -43,7 +46,8 @@ main-spec =
     mul-ask
     array-copy-out-ask
     ask-requires
+    returns
     add-i
     loop-less
     loop-again
-    returns)
+    returns-2)
