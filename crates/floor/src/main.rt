@@ -1,8 +1,10 @@
 // Tells what a straight flush and a royal flush are sure of, from lines of smallest ante, largest ante and base wager.
 //
-// A line has three numbers, with blanks between them, and all are dollars. Printed are, for each name, the floor of its win in the pool and the
-// full win; for a line that is no table's limits and a base wager of 1 to 1000 only that. An empty line is passed over. At most 4,096 bytes
-// are read.
+// A line has three numbers, with blanks before, between and after them as one likes: spaces, tabs, carriage returns. All are dollars. Printed are, for
+// each name, the floor of its win in the pool and the full win; for a line that is no table's limits and a base wager that a seat can have there, 4 times
+// the smallest ante to 10 times the largest, only that. A line of nothing but blanks is passed over.
+//
+// All is read before anything is printed; more than 65,536 bytes are not read.
 //
 // The file stdin beside src/ has cases, and stdout what this must print: worked out from the words of the demand, not by this code. The floors
 // are `sure_of`'s, which is proved to be what the third demand promises. Every function here is proved safe and ending; what is read and printed is
@@ -10,11 +12,23 @@
 use columns::digit_at;
 use columns::line_end;
 use demands::sure_of;
-use libc::STDIN_FILENO;
-use libc::STDOUT_FILENO;
+use pipes::Outcome;
+use pipes::called;
+use pipes::count_rest;
+use pipes::end;
+use pipes::read_into;
+use pipes::tell;
+use pipes::tell_unread;
+use pipes::tell_unwritten;
+use pipes::write_out;
 use records::byte_at;
 use records::is_between;
 use seating::Table;
+use text::put_bytes;
+use text::put_named;
+use text::up_to;
+
+const NAME: [u8; 5] = *b"floor";
 
 // A number in a line, and the place behind it. Where a line has no number the value is 0, which is no ante and no wager.
 struct Number {
@@ -28,10 +42,15 @@ fn with_digit(value: u16, digit: u8) -> u16 {
     if more < 65535 { more as u16 } else { 65535 }
 }
 
+// A space, a tab or a carriage return.
+fn is_blank(character: u8) -> bool {
+    (character == 32) | (character == 9) | (character == 13)
+}
+
 fn blanks_end(line: &[u8], from: usize) -> usize {
     let mut at = from;
     while at < line.len() {
-        if line[at] != 32 {
+        if !is_blank(line[at]) {
             return at;
         }
         at += 1;
@@ -68,55 +87,94 @@ fn table_of(smallest: u16, largest: u16) -> Table {
     }
 }
 
-fn print_number(before: &[u8], number: u64) {
-    io::write_all(STDOUT_FILENO, before);
-    io::print_decimal(STDOUT_FILENO, number);
+// What a seat can have on the base wager in the end: its ante, and a raise of one to three antes on each of three streets.
+fn wager_fits(table: Table, wager: u16) -> bool {
+    (4 * (table.smallest as u16) <= wager) & (wager <= 10 * (table.largest as u16))
 }
 
-fn print_sure(table: Table, royal: bool, win: u32) {
-    print_number(b" at least ", sure_of(table, royal, win));
-    print_number(b" of ", win as u64);
+fn put_sure(line: &mut [u8], at: usize, words: &[u8], sure: u64, win: u32) -> usize {
+    let least = put_named(line, at, words, sure);
+    put_named(line, least, b" of ", win as u64)
 }
 
-fn print_floors(table: Table, wager: u16) {
-    print_number(b"table ", table.smallest as u64);
-    print_number(b" to ", table.largest as u64);
-    print_number(b", base wager ", wager as u64);
-    io::write_all(STDOUT_FILENO, b": straight flush");
-    print_sure(table, false, 100 * (wager as u32));
-    io::write_all(STDOUT_FILENO, b", royal flush");
-    print_sure(table, true, 500 * (wager as u32));
-    io::write_all(STDOUT_FILENO, b"\n");
+// A line has at most 166 bytes, so it fits its room.
+fn tell_floors(table: Table, wager: u16) -> bool {
+    let straight = 100 * (wager as u32);
+    let royal = 500 * (wager as u32);
+    let mut line = [0u8; 256];
+    let from = put_named(&mut line, 0, b"table ", table.smallest as u64);
+    let to = put_named(&mut line, from, b" to ", table.largest as u64);
+    let wagered = put_named(&mut line, to, b", base wager ", wager as u64);
+    let first = put_sure(
+        &mut line,
+        wagered,
+        b": straight flush at least ",
+        sure_of(table, false, straight),
+        straight,
+    );
+    let second = put_sure(
+        &mut line,
+        first,
+        b", royal flush at least ",
+        sure_of(table, true, royal),
+        royal,
+    );
+    let last = put_bytes(&mut line, second, b"\n");
+    write_out(up_to(&line, last))
 }
 
-fn tell_line(line: &[u8]) {
-    if line.len() == 0 {
-        return;
+// Says whether what it had to say could be written.
+fn tell_line(line: &[u8]) -> bool {
+    if blanks_end(line, 0) == line.len() {
+        return true;
     }
     let smallest = number_from(line, 0);
     let largest = number_from(line, smallest.next);
     let wager = number_from(line, largest.next);
     let table = table_of(smallest.value, largest.value);
-    let wagered = (1 <= wager.value) & (wager.value <= 1000);
     let over = blanks_end(line, wager.next) == line.len();
-    if table.fits() & wagered & over {
-        print_floors(table, wager.value);
-    } else {
-        io::write_all(STDOUT_FILENO, b"not a table and a base wager\n");
+    if table.fits() & wager_fits(table, wager.value) & over {
+        return tell_floors(table, wager.value);
     }
+    write_out(b"not a table and a base wager\n")
 }
 
-fn tell_lines(text: &[u8]) {
+fn tell_lines(text: &[u8]) -> bool {
     let mut at = 0;
     while at < text.len() {
         let end = line_end(text, at);
-        tell_line(&text[at..end]);
+        if !tell_line(&text[at..end]) {
+            return false;
+        }
         at = end + 1;
     }
+    true
+}
+
+fn run() -> Outcome {
+    let mut text = io::large_buffer();
+    let got = read_into(&mut text);
+    let rest = count_rest();
+    if got.failed | rest.failed {
+        tell_unread(&NAME);
+        return Outcome::Fault;
+    }
+    if 0 < rest.bytes {
+        tell(&NAME, b"reads at most 65,536 bytes");
+        return Outcome::Fault;
+    }
+    if tell_lines(&text[..got.bytes]) {
+        return Outcome::Done;
+    }
+    tell_unwritten(&NAME);
+    Outcome::Fault
 }
 
 fn main() {
-    let mut text = io::buffer();
-    let n = io::read_full(STDIN_FILENO, &mut text);
-    tell_lines(&text[..n]);
+    let call = called(&NAME, true);
+    if call.sound {
+        end(&NAME, call, run());
+    } else {
+        end(&NAME, call, Outcome::Fault);
+    }
 }

@@ -1,6 +1,6 @@
 use Prim.Native.Nat.{_≤_, _+_, _-_}
-use lib.ListN.{length}
 use Rattle.columns.proofs.Lines.{line-within}
+use lib.ListN.{length}
 use borrow.Author.Needs.{needs}
 use Rattle.floor.proofs.tell_lines.Statement.{statement}
 use Rattle.floor.proofs.tell_lines.Tie as tie
@@ -33,10 +33,13 @@ part-tell-line-end c =
 tell-line-requires : tie.Need-tell-line-requires Inv-loop μ-loop
 tell-line-requires c κs = search needs
 
+returns : tie.Need-returns Inv-loop μ-loop
+returns c = search needs
+
 add-at : tie.Need-add-at Inv-loop μ-loop
 add-at c =
-    let text = c .before .before .before .before .before .before .args .text .now in
-    let at = c .before .before .before .before .loop .at in
+    let text = c .before .before .before .before .before .before .before .args .text .now in
+    let at = c .before .before .before .before .before .loop .at in
     let h : at ≤ length text = search needs in
     search (needs, line-within text at h)
 
@@ -45,13 +48,13 @@ loop-less c = search needs
 
 loop-again : tie.Need-loop-again Inv-loop μ-loop
 loop-again c =
-    let text = c .before .before .before .before .before .before .args .text .now in
-    let at = c .before .before .before .before .loop .at in
+    let text = c .before .before .before .before .before .before .before .args .text .now in
+    let at = c .before .before .before .before .before .loop .at in
     let h : at ≤ length text = search needs in
     search (needs, line-within text at h)
 
-returns : tie.Need-returns Inv-loop μ-loop
-returns c = search needs
+returns-2 : tie.Need-returns-2 Inv-loop μ-loop
+returns-2 c = search needs
 
 pub tell-lines-spec : {M : Type 1} → statement M
 tell-lines-spec =
@@ -65,7 +68,8 @@ tell-lines-spec =
     part-tell-line-start
     part-tell-line-end
     tell-line-requires
+    returns
     add-at
     loop-less
     loop-again
-    returns)
+    returns-2)
