@@ -1,9 +1,10 @@
 -- The answers of the entries and what the lent list then holds, case by case; and what is promised of an answer.
 -- Assumes nothing.
-use Prim.Native.Nat.{ℕ}
+use Prim.Native.Nat.{ℕ, _≤_}
 use mathlib.Core.Path.{_≡_, refl, ap, subst, _∙_}
 use mathlib.Core.Bool.{Bool, true, false, not}
 use mathlib.Core.List.{List}
+use native.Mathlib.Omega.{arith}
 use lib.Dec.{eqb}
 use lib.ListN.{length}
 use borrow.Author.Tests.{eq-eqb, ne-eqb, eqb-true}
@@ -18,8 +19,8 @@ use Rattle.results.specs.Results.{pool, resultsLong, results}
 use Rattle.settlement.specs.declared.Settlement.{Settlement}
 use Rattle.settlement.specs.declared.Settlement.the-variants.{Paid, Refused}
 use Rattle.settlement.specs.declared.FileSettlement.{FileSettlement}
-use Rattle.settlement.specs.declared.FileSettlement.the-variants.{Refused as RefusedFile}
-use Rattle.settlement.specs.Settle.{settleRefusal, settleAnswer, settleList, settleNumber, settlePool, fullAndPaid, readRefusal, readPlace, readPool, atPlace, readAnswer, readList, fileNumber, filePlace, filePool}
+use Rattle.settlement.specs.declared.FileSettlement.the-variants.{Paid as PaidFile, Refused as RefusedFile}
+use Rattle.settlement.specs.Settle.{settleRefusal, settleAnswer, settleList, settleNumber, settlePool, fullAndPaid, readRefusal, readPlace, readAnswer, readList, fileNumber, filePlace, filePool, countedPlace, readPool, atPlace}
 
 -- ---- a round
 
@@ -71,46 +72,70 @@ round-promised r lent answer new t s d =
 
 -- ---- a file
 
+module _ (w : Reading) (room : ℕ) where
+  abbrev file-by : Bool → FileSettlement
+  file-by none = if not none then RefusedFile (readRefusal w room) (readPlace w room) else PaidFile (pool (w .round) .full) (pool (w .round) .paid)
+
+  pub file-number : fileNumber (readAnswer w room) ≡ readRefusal w room
+  unfolding readAnswer
+  file-number = by-number (readRefusal w room) file-by fileNumber refl refl
+
+  pub file-pool : filePool (readAnswer w room) ≡ readPool w room
+  unfolding readAnswer
+  file-pool = by-values (readRefusal w room) file-by filePool (fullAndPaid (w .round)) refl refl
+
+  -- a reading whose number is at most 15, and which ends with none at the count of whole records
+  module _ (count : ℕ) (most : w .number ≤ 15) (all : w .number ≡ 0 → w .place ≡ count) where
+    at-16 : readRefusal w room ≡ 16 → readPlace w room ≡ count
+    unfolding readRefusal readPlace
+    at-16 = go (eqb room resultsLong) (eqb (w .number) 0) refl
+      where
+        go : (a b : Bool) → eqb (w .number) 0 ≡ b → (if not a then 1 else if not b then w .number else settleRefusal (w .round) room) ≡ 16 → (if not a then 0 else w .place) ≡ count
+        go false b q e = absurd (omega arith)
+        go true false q e = absurd (omega arith)
+        go true true q e = all (eqb-true (w .number) 0 q)
+
+    pub file-place : filePlace (readAnswer w room) ≡ countedPlace w count room
+    unfolding readAnswer countedPlace
+    file-place = go (eqb (readRefusal w room) 0) (eqb (readRefusal w room) 16) refl
+      where
+        go : (none b : Bool) → eqb (readRefusal w room) 16 ≡ b → filePlace (file-by none) ≡ (if none then 0 else if b then count else readPlace w room)
+        go true b q = refl
+        go false true q = at-16 (eqb-true (readRefusal w room) 16 q)
+        go false false q = refl
+
+at-place : (none : Bool) (number place full paid : ℕ)
+    → atPlace place (if not none then Refused number else Paid full paid) ≡ (if not none then RefusedFile number place else PaidFile full paid)
+at-place true number place full paid = refl
+at-place false number place full paid = refl
+
 module _ (w : Reading) (lent : List ℕ) where
-  pub read-room : isHeld (w .round) ≡ true → (length lent ≡ resultsLong → ⊥) → (RefusedFile 1 0 ≡ readAnswer w (length lent)) × (lent ≡ readList w lent)
-  unfolding readAnswer readList
-  read-room h n = (simp (ne-eqb (length lent) resultsLong n), go (eqb (w .number) 0) refl)
-    where
-      go : (b : Bool) → eqb (w .number) 0 ≡ b → lent ≡ readList w lent
-      go true e = simp e (wrong-room (w .round) lent h n .1)
-      go false e = simp e
+  -- the answer, and the list
+  abbrev pub SettlesFile : FileSettlement → List ℕ → Type 0
+  SettlesFile answer new = (answer ≡ readAnswer w (length lent)) × (new ≡ readList w lent)
 
-  pub read-refused : length lent ≡ resultsLong → (w .number ≡ 0 → ⊥)
-      → (RefusedFile (w .number) (w .place) ≡ readAnswer w (length lent)) × (lent ≡ readList w lent)
-  unfolding readAnswer readList
-  read-refused e n = (simp (e, ne-eqb (w .number) 0 n), simp (ne-eqb (w .number) 0 n))
+  pub read-room : (length lent ≡ resultsLong → ⊥) → SettlesFile (RefusedFile 1 0) lent
+  unfolding readRefusal readPlace readAnswer readList
+  read-room n = let wrong = ne-eqb (length lent) resultsLong n in (simp wrong, simp wrong)
 
-  pub read-settled : length lent ≡ resultsLong → w .number ≡ 0 → (answer : Settlement) (new : List ℕ) → Settles (w .round) lent answer new
-      → (atPlace (w .place) answer ≡ readAnswer w (length lent)) × (new ≡ readList w lent)
-  unfolding readAnswer readList
-  read-settled e z answer new s = (simp (s .0, z, eq-eqb (length lent) resultsLong e), simp z (s .1))
+  module _ (e : length lent ≡ resultsLong) where
+    pub read-refused : (w .number ≡ 0 → ⊥) → SettlesFile (RefusedFile (w .number) (w .place)) lent
+    unfolding readRefusal readPlace readAnswer readList
+    read-refused n = let some = ne-eqb (w .number) 0 n in (simp (e, some), simp (e, some))
 
--- the number, the place and the pool of an answer to a file, of which reading ends in a round that may be held, and with no refusal at the count of its
--- records
-module _ (w : Reading) (count room : ℕ) (h : isHeld (w .round) ≡ true) (all : w .number ≡ 0 → w .place ≡ count) where
-  abbrev Told : FileSettlement → Type 0
-  Told answer = (fileNumber answer ≡ readRefusal w room) × ((filePlace answer ≡ readPlace w count room) × (filePool answer ≡ readPool w room))
-
-  pub read-told : Told (readAnswer w room)
-  unfolding settleRefusal settleAnswer readRefusal readPlace readAnswer unlessRefused
-  read-told = go (eqb room resultsLong) refl (eqb (w .number) 0) refl (isFinished (w .round)) refl
-    where
-      go : (a : Bool) → eqb room resultsLong ≡ a → (b : Bool) → eqb (w .number) 0 ≡ b → (f : Bool) → isFinished (w .round) ≡ f → Told (readAnswer w room)
-      go false p b q f s = simp p (refl, (refl, refl))
-      go true p false q f s = simp (p, q) (refl, (refl, refl))
-      go true p true q false s = simp (p, q, s, h) (refl, (all (eqb-true (w .number) 0 q), refl))
-      go true p true q true s = simp (p, q, s, h) (refl, (refl, refl))
+    -- else it is the answer for the held round, and its list
+    pub read-settled : w .number ≡ 0 → (answer : Settlement) (new : List ℕ) → Settles (w .round) lent answer new → SettlesFile (atPlace (w .place) answer) new
+    unfolding settleAnswer settleList readRefusal readPlace readAnswer readList
+    read-settled z answer new s =
+        let right = eq-eqb (length lent) resultsLong e in
+        (simp (s .0, z, right) (at-place (eqb (settleRefusal (w .round) (length lent)) 0) _ _ _ _), simp (z, right) (s .1))
 
 -- what settle_file and settle_prefix promise
-pub file-promised : (w : Reading) (count : ℕ) (lent : List ℕ) (r : FileSettlement) (new : List ℕ) → isHeld (w .round) ≡ true → (w .number ≡ 0 → w .place ≡ count)
-    → (r ≡ readAnswer w (length lent)) × (new ≡ readList w lent)
-    → (r ≡ readAnswer w (length lent))
-    × ((fileNumber r ≡ readRefusal w (length lent)) × ((filePlace r ≡ readPlace w count (length lent)) × ((filePool r ≡ readPool w (length lent)) × (new ≡ readList w lent))))
-file-promised w count lent r new h all s =
-    let t = read-told w count (length lent) h all in
-    (s .0, (ap fileNumber (s .0) ∙ t .0, (ap filePlace (s .0) ∙ t .1 .0, (ap filePool (s .0) ∙ t .1 .1, s .1))))
+pub file-promised : (w : Reading) (count : ℕ) (lent : List ℕ) (answer : FileSettlement) (new : List ℕ) → w .number ≤ 15 → (w .number ≡ 0 → w .place ≡ count)
+    → SettlesFile w lent answer new
+    → (answer ≡ readAnswer w (length lent))
+    × ((fileNumber answer ≡ readRefusal w (length lent))
+    × ((filePlace answer ≡ countedPlace w count (length lent)) × ((filePool answer ≡ readPool w (length lent)) × (new ≡ readList w lent))))
+file-promised w count lent answer new most all s =
+    let room = length lent in
+    (s .0, (ap fileNumber (s .0) ∙ file-number w room, (ap filePlace (s .0) ∙ file-place w room count most all, (ap filePool (s .0) ∙ file-pool w room, s .1))))

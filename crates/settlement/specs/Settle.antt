@@ -54,42 +54,27 @@ fullAndPaid r = pool r .full ∷ pool r .paid ∷ []
 
 -- ---- a file
 
--- The number of the refusal, 0 where there is none. A file is checked for 1, then 2, then record by record; 16: the round isn't finished.
+-- The number of the refusal, 0 where there is none. A file is checked for 1, then 2, then record by record; else the held round is settled.
 unfoldable pub readRefusal : Reading → ℕ → ℕ
 readRefusal w room =
     if not (eqb room resultsLong) then 1
     else if not (eqb (w .number) 0) then w .number
-    else if not (isFinished (w .round)) then 16
-    else 0
+    else settleRefusal (w .round) room
 
--- The place of the refusal, 0 where there is none: for 1, place 0; then where reading ends, which is the place of the first faulty record, from 0,
--- and for 2 the count of whole records; for 16 that count.
-unfoldable pub readPlace : Reading → ℕ → ℕ → ℕ
-readPlace w count room =
-    if not (eqb room resultsLong) then 0
-    else if not (eqb (w .number) 0) then w .place
-    else if not (isFinished (w .round)) then count
-    else 0
+-- Its place: for 1, place 0; else where reading ended, which is the place of the first faulty record, from 0, and for 2 and 16 the count of whole
+-- records.
+unfoldable pub readPlace : Reading → ℕ → ℕ
+readPlace w room = if not (eqb room resultsLong) then 0 else w .place
 
--- the pool in dollars, full and as paid, where there is no refusal
-abbrev pub readPool : Reading → ℕ → List ℕ
-readPool w room = unlessRefused (readRefusal w room) (fullAndPaid (w .round))
-
--- the answer for a round, at a place of a file
-abbrev pub atPlace : ℕ → Settlement → FileSettlement
-atPlace place (Paid full paid) = PaidFile full paid
-atPlace place (Refused number) = RefusedFile number place
-
--- A file is checked for 1, at place 0, then 2, then record by record; else the held round is settled, and 16 carries the count of
--- whole records.
+-- refused with its number and place, or the pool in dollars, full and as paid
 unfoldable pub readAnswer : Reading → ℕ → FileSettlement
 readAnswer w room =
-    if not (eqb room resultsLong) then RefusedFile 1 0
-    else if not (eqb (w .number) 0) then RefusedFile (w .number) (w .place)
-    else atPlace (w .place) (settleAnswer (w .round) room)
+    if not (eqb (readRefusal w room) 0) then RefusedFile (readRefusal w room) (readPlace w room)
+    else PaidFile (pool (w .round) .full) (pool (w .round) .paid)
 
+-- A refusal changes no lent list.
 unfoldable pub readList : Reading → List ℕ → List ℕ
-readList w lent = if not (eqb (w .number) 0) then lent else settleList (w .round) lent
+readList w lent = if not (eqb (readRefusal w (length lent)) 0) then lent else results (w .round)
 
 abbrev pub fileAnswer : List ℕ → ℕ → FileSettlement
 fileAnswer l room = readAnswer (readFile l) room
@@ -109,7 +94,7 @@ abbrev pub fileNumber : FileSettlement → ℕ
 fileNumber (PaidFile full paid) = 0
 fileNumber (RefusedFile number place) = number
 
--- and its values: a refusal's place,
+-- and its values: a refusal's place, 0 where there is none,
 abbrev pub filePlace : FileSettlement → ℕ
 filePlace (PaidFile full paid) = 0
 filePlace (RefusedFile number place) = place
@@ -118,3 +103,21 @@ filePlace (RefusedFile number place) = place
 abbrev pub filePool : FileSettlement → List ℕ
 filePool (PaidFile full paid) = full ∷ paid ∷ []
 filePool (RefusedFile number place) = []
+
+-- the place as it goes by the number: 0 where there is no refusal, and for 16 the count of whole records
+unfoldable pub countedPlace : Reading → ℕ → ℕ → ℕ
+countedPlace w count room =
+    if eqb (readRefusal w room) 0 then 0
+    else if eqb (readRefusal w room) 16 then count
+    else readPlace w room
+
+-- the pool in dollars, full and as paid, where there is no refusal
+abbrev pub readPool : Reading → ℕ → List ℕ
+readPool w room = unlessRefused (readRefusal w room) (fullAndPaid (w .round))
+
+-- ---- the same as the code hands it on
+
+-- the answer for a round, at a place of a file
+abbrev pub atPlace : ℕ → Settlement → FileSettlement
+atPlace place (Paid full paid) = PaidFile full paid
+atPlace place (Refused number) = RefusedFile number place

@@ -19,7 +19,7 @@ ghost use Rattle.led.specs.Held.{isHeld};
 ghost use Rattle.held.specs.Take.{Decides};
 ghost use Rattle.reading.specs.File.{readFile, readPrefix};
 ghost use Rattle.results.specs.Results.{resultsLong};
-ghost use Rattle.settlement.specs.Settle.{settleRefusal, settleAnswer, settleList, settleNumber, settlePool, fullAndPaid, readRefusal, readPlace, readPool, atPlace, readAnswer, readList, fileAnswer, fileList, prefixAnswer, prefixList, fileNumber, filePlace, filePool};
+ghost use Rattle.settlement.specs.Settle.{settleRefusal, settleAnswer, settleList, settleNumber, settlePool, fullAndPaid, readRefusal, readAnswer, readList, fileAnswer, fileList, prefixAnswer, prefixList, fileNumber, filePlace, filePool, countedPlace, readPool, atPlace};
 
 // The answer to a held round.
 pub enum Settlement {
@@ -117,7 +117,7 @@ fn settle_reading(reading: Reading, results: &mut [u64]) -> FileSettlement
 pub fn settle_file(file: &[u8], results: &mut [u64]) -> FileSettlement
     ensures answer { λ r. ⌜ r ≡ fileAnswer (now (file .entry)) (length (now (results .entry))) ⌝ }
     ensures number { λ r. ⌜ fileNumber r ≡ readRefusal (readFile (now (file .entry))) (length (now (results .entry))) ⌝ }
-    ensures place { λ r. ⌜ filePlace r ≡ readPlace (readFile (now (file .entry))) (length (now (file .entry)) / 16) (length (now (results .entry))) ⌝ }
+    ensures place { λ r. ⌜ filePlace r ≡ countedPlace (readFile (now (file .entry))) (length (now (file .entry)) / 16) (length (now (results .entry))) ⌝ }
     ensures pool { λ r. ⌜ filePool r ≡ readPool (readFile (now (file .entry))) (length (now (results .entry))) ⌝ }
     ensures list { λ r. ⌜ now (results .exit) ≡ fileList (now (file .entry)) (now (results .entry)) ⌝ }
 {
@@ -129,7 +129,7 @@ pub fn settle_file(file: &[u8], results: &mut [u64]) -> FileSettlement
 pub fn settle_prefix(first: &[u8], after: usize, results: &mut [u64]) -> FileSettlement
     ensures answer { λ r. ⌜ r ≡ prefixAnswer (now (first .entry)) after (length (now (results .entry))) ⌝ }
     ensures number { λ r. ⌜ fileNumber r ≡ readRefusal (readPrefix (now (first .entry)) after) (length (now (results .entry))) ⌝ }
-    ensures place { λ r. ⌜ filePlace r ≡ readPlace (readPrefix (now (first .entry)) after) ((length (now (first .entry)) + after) / 16) (length (now (results .entry))) ⌝ }
+    ensures place { λ r. ⌜ filePlace r ≡ countedPlace (readPrefix (now (first .entry)) after) ((length (now (first .entry)) + after) / 16) (length (now (results .entry))) ⌝ }
     ensures pool { λ r. ⌜ filePool r ≡ readPool (readPrefix (now (first .entry)) after) (length (now (results .entry))) ⌝ }
     ensures list { λ r. ⌜ now (results .exit) ≡ prefixList (now (first .entry)) after (now (results .entry)) ⌝ }
 {

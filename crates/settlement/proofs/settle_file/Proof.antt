@@ -1,4 +1,4 @@
-use Rattle.reading.proofs.Readings.{read-held, read-count}
+use Rattle.reading.proofs.Readings.{read-number, read-held, read-count}
 use Rattle.settlement.proofs.Answers.{file-promised}
 use borrow.Author.Needs.{needs}
 use Rattle.settlement.proofs.settle_file.Statement.{statement}
@@ -14,7 +14,7 @@ same-length : tie.Need-same-length
 same-length c = search needs
 
 returns : tie.Need-returns
-returns c = file-promised _ _ _ _ _ (read-held _) (read-count _) (rw (c .before .before .before .before .read-file .ensures) at (c .before .before .settle-reading .ensures))
+returns c = file-promised _ _ _ _ _ (read-number _) (read-count _) (rw (c .before .before .before .before .read-file .ensures) at (c .before .before .settle-reading .ensures))
 
 pub settle-file-spec : {M : Type 1} → statement M
 settle-file-spec =

@@ -1,4 +1,4 @@
-use Rattle.reading.proofs.Prefix.{prefix-held, prefix-count}
+use Rattle.reading.proofs.Prefix.{prefix-held, prefix-number, prefix-count}
 use Rattle.settlement.proofs.Answers.{file-promised}
 use borrow.Author.Needs.{needs}
 use Rattle.settlement.proofs.settle_prefix.Statement.{statement}
@@ -14,7 +14,7 @@ same-length : tie.Need-same-length
 same-length c = search needs
 
 returns : tie.Need-returns
-returns c = file-promised _ _ _ _ _ (prefix-held _ _) (prefix-count _ _) (rw (c .before .before .before .before .read-prefix .ensures) at (c .before .before .settle-reading .ensures))
+returns c = file-promised _ _ _ _ _ (prefix-number _ _) (prefix-count _ _) (rw (c .before .before .before .before .read-prefix .ensures) at (c .before .before .settle-reading .ensures))
 
 pub settle-prefix-spec : {M : Type 1} → statement M
 settle-prefix-spec =

@@ -4,7 +4,7 @@ use Rattle.settlement.proofs.settle_reading.Statement.{statement}
 use Rattle.settlement.proofs.settle_reading.Tie as tie
 
 returns : tie.Need-returns
-returns c = read-room _ _ (c .before .before .pre) (c .if1 .taken)
+returns c = read-room _ _ (c .if1 .taken)
 
 returns-2 : tie.Need-returns-2
 returns-2 c = read-refused _ _ (c .before .if1 .left) (c .if2 .taken)
