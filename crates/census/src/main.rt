@@ -1,5 +1,10 @@
 // How many hands have each name: every hand of five, three and two of the 52 cards, named through the public entries.
 //
+// Example:
+//     ./run census | tail -n 1
+// prints
+//     pocket: 6 12 36 72 1200 0
+//
 // The file stdout beside src/ has what this must print. It was worked out by combinatorics and not by this code:
 // docs/COUNTS.md has the working. Every function here is proved safe and ending; what the program prints is tested and
 // not proved.
@@ -12,10 +17,8 @@ use names::PocketAnswer;
 use pipes::Outcome;
 use pipes::called;
 use pipes::end;
-use pipes::tell_unwritten;
-use pipes::write_out;
+use pipes::print;
 use text::put_line;
-use text::up_to;
 
 const NAME: [u8; 6] = *b"census";
 
@@ -120,22 +123,13 @@ fn tally(entry: u8, size: usize, hands: u64) -> [u64; 16]
     counts
 }
 
-// Writes a line, which ends at `last`, and says whether it could, which is told where not.
-fn write_line(line: &[u8], last: usize) -> bool {
-    if write_out(up_to(line, last)) {
-        return true;
-    }
-    tell_unwritten(&NAME);
-    false
-}
-
 // The counts of the first rows, on one line.
 fn write_counts(words: &[u8], counts: [u64; 16], rows: usize) -> bool
     requires { ⌜ rows ≤ 16 ⌝ }
 {
     let mut line = [0u8; 512];
     let last = put_line(&mut line, 0, words, &counts[0..rows]);
-    write_line(&line, last)
+    print(&NAME, &line, last)
 }
 
 // A line for each entry: how many hands have each name, in the order of document 01's list, and how many are refused.
@@ -159,7 +153,5 @@ fn main() {
     let call = called(&NAME, false);
     if call.sound {
         end(&NAME, call, ask_all());
-    } else {
-        end(&NAME, call, Outcome::Fault);
     }
 }

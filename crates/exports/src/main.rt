@@ -3,16 +3,20 @@
 // Standard input is the round file of document 01. Printed is a line for each call: the function, what it is handed, what it answers, and what it
 // then tells in what it was lent, where 7 stood before. A refusal leaves each 7 but the place.
 //
+// Example:
+//     ./run exports samples/whole-round.bin | tail -n 1
+// prints
+//     share 75001 among 20000 10000 500: 20, shares 7 7 7
+//
 // stdout beside src/ is worked out from document 01. Every function here is proved safe and ending; what the program prints is tested and not proved.
 use pipes::Outcome;
 use pipes::called;
 use pipes::count_rest;
 use pipes::end;
+use pipes::print;
 use pipes::read_into;
 use pipes::tell;
 use pipes::tell_unread;
-use pipes::tell_unwritten;
-use pipes::write_out;
 use ripplehatch::ripplehatch_name_five;
 use ripplehatch::ripplehatch_refused_part;
 use ripplehatch::ripplehatch_settle_file;
@@ -20,7 +24,6 @@ use ripplehatch::ripplehatch_share;
 use text::put_bytes;
 use text::put_line;
 use text::put_named;
-use text::up_to;
 ghost use Prim.Native.Nat.{_≤_};
 
 // The round file's bytes.
@@ -39,15 +42,6 @@ fn put_answer(line: &mut [u8], what: &[u8], number: u64) -> usize {
     put_named(line, asked, b": ", number)
 }
 
-// Writes a line, which ends at `last`, and says whether it could, which is told where not.
-fn write_line(line: &[u8], last: usize) -> bool {
-    if write_out(up_to(line, last)) {
-        return true;
-    }
-    tell_unwritten(&NAME);
-    false
-}
-
 fn ask_settle(what: &[u8], file: &[u8], room: usize) -> bool
     requires { ⌜ room ≤ 28 ⌝ }
 {
@@ -63,7 +57,7 @@ fn ask_settle(what: &[u8], file: &[u8], room: usize) -> bool
     let as_paid = put_named(&mut line, in_full, b" ", paid);
     let placed = put_named(&mut line, as_paid, b", place ", place as u64);
     let last = put_line(&mut line, placed, b", results", lent);
-    write_line(&line, last)
+    print(&NAME, &line, last)
 }
 
 fn ask_part(what: &[u8], file: &[u8]) -> bool {
@@ -72,7 +66,7 @@ fn ask_part(what: &[u8], file: &[u8]) -> bool {
     let mut line = [0u8; LINE];
     let answered = put_answer(&mut line, what, begins as u64);
     let last = put_line(&mut line, answered, b", long", &[long as u64]);
-    write_line(&line, last)
+    print(&NAME, &line, last)
 }
 
 fn ask_name(what: &[u8], cards: &[u8]) -> bool {
@@ -81,7 +75,7 @@ fn ask_name(what: &[u8], cards: &[u8]) -> bool {
     let mut line = [0u8; LINE];
     let answered = put_answer(&mut line, what, number as u64);
     let last = put_line(&mut line, answered, b", name", &[name as u64]);
-    write_line(&line, last)
+    print(&NAME, &line, last)
 }
 
 fn ask_share(what: &[u8], wins: &[u64], maximum: u64, room: usize) -> bool
@@ -93,7 +87,7 @@ fn ask_share(what: &[u8], wins: &[u64], maximum: u64, room: usize) -> bool
     let mut line = [0u8; LINE];
     let answered = put_answer(&mut line, what, number as u64);
     let last = put_line(&mut line, answered, b", shares", lent);
-    write_line(&line, last)
+    print(&NAME, &line, last)
 }
 
 fn ask_files(file: [u8; WHOLE]) -> bool {
@@ -179,7 +173,5 @@ fn main() {
     let call = called(&NAME, true);
     if call.sound {
         end(&NAME, call, asked());
-    } else {
-        end(&NAME, call, Outcome::Fault);
     }
 }

@@ -187,6 +187,15 @@ pub fn tell_unwritten(name: &[u8]) {
     tell_why(name, b"cannot write to standard output");
 }
 
+// Writes the text that ends at a place of a room, whole, to standard output, and says whether it could, which is told where not.
+pub fn print(name: &[u8], room: &[u8], last: usize) -> bool {
+    if write_out(up_to(room, last)) {
+        return true;
+    }
+    tell_unwritten(name);
+    false
+}
+
 // The argument at place i is `--status`. A longer one does not fit, and reads as none.
 fn is_status(i: usize) -> bool {
     let mut word = [0u8; 8];
@@ -213,17 +222,6 @@ fn tell_usage(name: &[u8], reads: bool) {
     }
 }
 
-// Looks at the arguments: none, or `--status` alone. Any other call is told, with whether the program reads standard input.
-pub fn called(name: &[u8], reads: bool) -> Call {
-    let many = os::arg_count();
-    let status = has_status(many);
-    let sound = (many <= 1) | (status & (many == 2));
-    if !sound {
-        tell_usage(name, reads);
-    }
-    Call { sound, status }
-}
-
 fn digit(outcome: Outcome) -> u8 {
     match outcome {
         Outcome::Done => 48,
@@ -241,4 +239,19 @@ pub fn end(name: &[u8], call: Call, outcome: Outcome) {
     if !write_whole(STATUS_FILENO, &line) {
         tell_why(name, b"cannot write the status");
     }
+}
+
+// Looks at the arguments: none, or `--status` alone. Any other call is told, with whether the program reads standard input, and ends with a fault.
+pub fn called(name: &[u8], reads: bool) -> Call {
+    let many = os::arg_count();
+    let status = has_status(many);
+    let call = Call {
+        sound: (many <= 1) | (status & (many == 2)),
+        status,
+    };
+    if !call.sound {
+        tell_usage(name, reads);
+        end(name, call, Outcome::Fault);
+    }
+    call
 }

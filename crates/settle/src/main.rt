@@ -6,6 +6,13 @@
 //
 // Called with `--status`, it writes to file descriptor 3: 0 where it printed amounts, 1 where a refusal, 2 for a fault. It takes no other argument.
 //
+// Example:
+//     ./run settle samples/whole-round.bin
+// prints
+//     1 2183300 20500 10500 0
+//     2 516600 0 0 0
+//     pool 600000 24999
+//
 // The first 34 records are held and the bytes beyond are counted, which is enough for the answer of the whole file
 // (`prefix-is-file`, crates/demands/proofs/Demands.antt). What is read and printed is tested, not proved.
 use pipes::Got;
@@ -13,17 +20,15 @@ use pipes::Outcome;
 use pipes::called;
 use pipes::count_rest;
 use pipes::end;
+use pipes::print;
 use pipes::read_into;
 use pipes::tell_unread;
-use pipes::tell_unwritten;
-use pipes::write_out;
 use results::RESULTS;
 use results::SEAT_WAGERS;
 use settlement::FileSettlement;
 use settlement::settle_prefix;
 use text::put_line;
 use text::put_named;
-use text::up_to;
 ghost use Prim.Native.Nat.{_≤_};
 ghost use Rattle.io.specs.Counts.{Counts};
 
@@ -82,10 +87,9 @@ fn put_seats(room: &mut [u8], file: [u8; HELD_BYTES], results: [u64; RESULTS]) -
 
 // Writes the answer, which ends at `last`: the outcome, or a fault where it can't be written.
 fn printed(room: &[u8], last: usize, outcome: Outcome) -> Outcome {
-    if write_out(up_to(room, last)) {
+    if print(&NAME, room, last) {
         return outcome;
     }
-    tell_unwritten(&NAME);
     Outcome::Fault
 }
 
@@ -129,7 +133,5 @@ fn main() {
     let call = called(&NAME, true);
     if call.sound {
         end(&NAME, call, run());
-    } else {
-        end(&NAME, call, Outcome::Fault);
     }
 }

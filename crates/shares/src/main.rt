@@ -1,5 +1,10 @@
 // Pools whose shares are known from outside, and pools that are refused, asked of the public entry.
 //
+// Example:
+//     ./run shares | tail -n 1
+// prints
+//     share 25000 1 2 3 4 5 6 7: full 1 2 3 4 5 6 7
+//
 // The file stdout beside src/ has what this must print. It was worked out by hand from the rule sheet and not by this code:
 // docs/COUNTS.md has the working. Every function here is proved safe and ending; what the program prints is tested and
 // not proved.
@@ -7,14 +12,12 @@ ghost use Prim.Native.Nat.{_≤_};
 use pipes::Outcome;
 use pipes::called;
 use pipes::end;
-use pipes::tell_unwritten;
-use pipes::write_out;
+use pipes::print;
 use pool::Shared;
 use text::put_bytes;
 use text::put_line;
 use text::put_list;
 use text::put_named;
-use text::up_to;
 
 const NAME: [u8; 6] = *b"shares";
 
@@ -51,15 +54,6 @@ const POOLS: [[u64; 11]; 17] = [
     [25000, 7, 7, 1, 2, 3, 4, 5, 6, 7, 0], // seven in full
 ];
 
-// Writes a line, which ends at `last`, and says whether it could, which is told where not.
-fn write_line(line: &[u8], last: usize) -> bool {
-    if write_out(up_to(line, last)) {
-        return true;
-    }
-    tell_unwritten(&NAME);
-    false
-}
-
 fn put_shared(line: &mut [u8], at: usize, answer: Shared) -> usize {
     match answer {
         Shared::Full => put_bytes(line, at, b": full"),
@@ -80,7 +74,7 @@ fn ask(maximum: u64, wins: &[u64], room: usize) -> bool
     let shared = put_list(&mut line, asked, b"", wins);
     let answered = put_shared(&mut line, shared, answer);
     let last = put_line(&mut line, answered, b"", list);
-    write_line(&line, last)
+    print(&NAME, &line, last)
 }
 
 fn ask_row(row: [u64; 11]) -> bool {
@@ -108,7 +102,5 @@ fn main() {
     let call = called(&NAME, false);
     if call.sound {
         end(&NAME, call, ask_all());
-    } else {
-        end(&NAME, call, Outcome::Fault);
     }
 }

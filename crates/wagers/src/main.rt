@@ -1,5 +1,10 @@
 // What pay tables hand back for cards, and which odds are above 50, asked of the public entries.
 //
+// Example:
+//     ./run wagers | tail -n 1
+// prints
+//     Pocket 1 5 0
+//
 // The file stdout beside src/ has what this must print. It was worked out by hand from the rule sheet and not by this code:
 // docs/COUNTS.md has the working. Every function here is proved safe and ending; what the program prints is tested and
 // not proved.
@@ -12,11 +17,9 @@ use pays::Pay;
 use pipes::Outcome;
 use pipes::called;
 use pipes::end;
-use pipes::tell_unwritten;
-use pipes::write_out;
+use pipes::print;
 use text::put_bytes;
 use text::put_list;
-use text::up_to;
 
 const NAME: [u8; 6] = *b"wagers";
 
@@ -104,15 +107,6 @@ fn cards_of(entry: u8) -> usize
     }
 }
 
-// Writes a line, which ends at `last`, and says whether it could, which is told where not.
-fn write_line(line: &[u8], last: usize) -> bool {
-    if write_out(up_to(line, last)) {
-        return true;
-    }
-    tell_unwritten(&NAME);
-    false
-}
-
 fn put_entry(line: &mut [u8], entry: u8) -> usize {
     match entry {
         0 => put_bytes(line, 0, b"base"),
@@ -140,7 +134,7 @@ fn ask(row: [u8; 8]) -> bool {
     let named = put_entry(&mut line, row[0]);
     let listed = put_list(&mut line, named, b"", &numbers);
     let last = put_above(&mut line, listed, pay);
-    write_line(&line, last)
+    print(&NAME, &line, last)
 }
 
 fn ask_all() -> Outcome {
@@ -156,7 +150,5 @@ fn main() {
     let call = called(&NAME, false);
     if call.sound {
         end(&NAME, call, ask_all());
-    } else {
-        end(&NAME, call, Outcome::Fault);
     }
 }
