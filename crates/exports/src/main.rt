@@ -11,12 +11,10 @@
 // stdout beside src/ is worked out from document 01. Every function here is proved safe and ending; what the program prints is tested and not proved.
 use pipes::Outcome;
 use pipes::called;
-use pipes::count_rest;
 use pipes::end;
 use pipes::print;
-use pipes::read_into;
+use pipes::read_all;
 use pipes::tell;
-use pipes::tell_unread;
 use ripplehatch::ripplehatch_name_five;
 use ripplehatch::ripplehatch_refused_part;
 use ripplehatch::ripplehatch_settle_file;
@@ -156,13 +154,11 @@ fn ask_all(file: [u8; WHOLE]) -> Outcome {
 
 fn asked() -> Outcome {
     let mut file = [0u8; WHOLE];
-    let got = read_into(&mut file);
-    let rest = count_rest();
-    if got.failed | rest.failed {
-        tell_unread(&NAME);
+    let got = read_all(&NAME, &mut file, b"reads a file of 208 bytes");
+    if got.failed {
         return Outcome::Fault;
     }
-    if (got.bytes < WHOLE) | (0 < rest.bytes) {
+    if got.bytes < WHOLE {
         tell(&NAME, b"reads a file of 208 bytes");
         return Outcome::Fault;
     }

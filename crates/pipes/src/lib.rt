@@ -187,6 +187,24 @@ pub fn tell_unwritten(name: &[u8]) {
     tell_why(name, b"cannot write to standard output");
 }
 
+// Reads all of standard input into the room. A read that fails is told, and so is input that goes on behind the room, in the given words; both are failures.
+pub fn read_all(name: &[u8], room: &mut [u8], what: &[u8]) -> Got
+    ensures { λ r. ⌜ Counts (r .bytes) (now (room .exit)) ⌝ }
+{
+    let got = read_into(room);
+    let rest = count_rest();
+    let failed = got.failed | rest.failed;
+    if failed {
+        tell_unread(name);
+    } else if 0 < rest.bytes {
+        tell(name, what);
+    }
+    Got {
+        bytes: got.bytes,
+        failed: failed | (0 < rest.bytes),
+    }
+}
+
 // Writes the text that ends at a place of a room, whole, to standard output, and says whether it could, which is told where not.
 pub fn print(name: &[u8], room: &[u8], last: usize) -> bool {
     if write_out(up_to(room, last)) {

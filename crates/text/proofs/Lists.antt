@@ -32,9 +32,11 @@ module _ (room ns : List ℕ) (next i : ℕ) where
   behind-number h = behind-both room word (listed (drop (i + 1) ns)) next ∙ ap (behind room next) (sym (listed-more ns i h))
 
   pub write-numbered : length ns ≤ i → room ≡ written room next (listed (drop i ns))
+  unfolding written
   write-numbered h = ap (written room next) (sym (listed-over ns i h))
 
   pub behind-numbered : length ns ≤ i → next ≡ behind room next (listed (drop i ns))
+  unfolding behind
   behind-numbered h =
       let e : next ≡ behind room next [] = omega arith in
       e ∙ ap (behind room next) (sym (listed-over ns i h))

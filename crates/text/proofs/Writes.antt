@@ -14,12 +14,15 @@ use Rattle.text.specs.Text.{behind, written}
 
 pub write-more : (room bytes : List ℕ) (to from : ℕ) → from < length bytes
     → written room to (drop from bytes) ≡ written (set room to (getD bytes from 0)) (to + 1) (drop (from + 1) bytes)
+unfolding written
 write-more room bytes to from h = rw (add-one to, add-one from, drop-cons bytes from 0)
 
 pub write-over : (room bytes : List ℕ) (to from : ℕ) → length bytes ≤ from → written room to (drop from bytes) ≡ room
+unfolding written
 write-over room bytes to from h = rw drop-of-length-le
 
 pub write-past : (bytes room : List ℕ) (to : ℕ) → length room ≤ to → written room to bytes ≡ room
+unfolding written
 write-past [] room to h = refl
 write-past (b ∷ bytes) room to h =
     let h′ : length (set room to b) ≤ suc to = omega (arith, length-set room to b) in
@@ -27,6 +30,7 @@ write-past (b ∷ bytes) room to h =
 
 write-on : (first second room : List ℕ) (at : ℕ)
     → written (written room at first) (at + length first) second ≡ written room at (first ++ second)
+unfolding written
 write-on [] second room at = ap (λ (n : ℕ). written room n second) (omega arith)
 write-on (b ∷ first) second room at =
     let e : at + suc (length first) ≡ suc at + length first = omega arith in
@@ -34,6 +38,7 @@ write-on (b ∷ first) second room at =
 
 pub write-both : (room first second : List ℕ) (at : ℕ)
     → written (written room at first) (behind room at first) second ≡ written room at (first ++ second)
+unfolding written behind
 write-both room first second at = go _ refl
   where
     go : (t : Bool) → leb (at + length first) (length room) ≡ t
@@ -50,4 +55,5 @@ write-both room first second at = go _ refl
 
 pub behind-both : (room first second : List ℕ) (at : ℕ)
     → behind (written room at first) (behind room at first) second ≡ behind room at (first ++ second)
+unfolding written behind
 behind-both room first second at = omega (arith, length-sets room at first, length-append first second)

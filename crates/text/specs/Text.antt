@@ -8,11 +8,11 @@ use lib.Seq.{sets}
 use Rattle.counting.specs.Choose.{if_then_else_}
 
 -- The room once bytes are stored in it, one after the other, from a place on; those that would lie past its end are left out.
-abbrev pub written : List ℕ → ℕ → List ℕ → List ℕ
+unfoldable pub written : List ℕ → ℕ → List ℕ → List ℕ
 written room at bytes = sets room at bytes
 
 -- The place behind those that were stored.
-abbrev pub behind : List ℕ → ℕ → List ℕ → ℕ
+unfoldable pub behind : List ℕ → ℕ → List ℕ → ℕ
 behind room at bytes = at + min (length bytes) (length room - at)
 
 -- A number's decimal digits in front of other characters: none for 0, else the last one, and in front of it those of the rest; at most k.

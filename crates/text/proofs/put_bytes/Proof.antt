@@ -1,7 +1,7 @@
 use Prim.Native.Nat.{_≤_, _+_, _-_}
 use mathlib.Core.Path.{_≡_, refl, sym, _∙_}
 use lib.ListN.{length, drop}
-use Rattle.text.specs.Text.{written}
+use Rattle.text.specs.Text.{behind, written}
 use Rattle.text.proofs.Writes.{write-more, write-over, write-past}
 use borrow.Author.Needs.{needs}
 use Rattle.text.proofs.put_bytes.Statement.{statement}
@@ -20,6 +20,7 @@ same-length : tie.Need-same-length Inv-loop μ-loop
 same-length c = search needs
 
 returns : tie.Need-returns Inv-loop μ-loop
+unfolding behind
 returns c =
     let l = c .before .before .loop in
     (search needs, sym (write-past (drop (l .from) (c .before .before .before .args .bytes .now)) _ _ (c .if1 .taken)) ∙ l .inv .4)
@@ -48,6 +49,7 @@ same-length-2 : tie.Need-same-length-2 Inv-loop μ-loop
 same-length-2 c = search needs
 
 returns-2 : tie.Need-returns-2 Inv-loop μ-loop
+unfolding behind
 returns-2 c =
     let l = c .before .loop in
     (search needs, sym (write-over _ (c .before .before .args .bytes .now) (l .to) _ (c .loop-test .left)) ∙ l .inv .4)

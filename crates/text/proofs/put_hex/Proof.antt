@@ -21,7 +21,7 @@ returns : tie.Need-returns
 returns c =
     let p = c .before .before .put-bytes .ensures in
     let d = c .before .before .before .before .before in
-    (p .0, simp (d .hex-digit2 .ensures, d .before .hex-digit .ensures) at (p .1))
+    (simp (d .hex-digit2 .ensures, d .before .hex-digit .ensures) at (p .0), simp (d .hex-digit2 .ensures, d .before .hex-digit .ensures) at (p .1))
 
 pub put-hex-spec : {M : Type 1} → statement M
 put-hex-spec =
