@@ -1,13 +1,13 @@
 -- Lists that are gathered place by place, m numbers at each: how long they are, and what stands where.
 -- Assumes nothing.
 use Prim.Native.Nat.{ℕ, zero, suc, _+_, _*_, _≤_, _<_}
-use mathlib.Core.Path.{_≡_, refl, _∙_}
+use mathlib.Core.Path.{_≡_, refl, sym, _∙_}
 use mathlib.Core.List.{List, [], _∷_, _++_}
 use native.Mathlib.Nat.{mul-le-mul-left, mul-add, mul-one}
 use native.Mathlib.Numerals.{add-one}
 use native.Mathlib.Omega.{arith}
 use lib.ListN.{length, getD, length-append, List·getD-append}
-use lib.Seq.{getD-append-add}
+use lib.Seq.{ext-getD, getD-append-add}
 use Rattle.counting.specs.Count.{sumBelow, total, gather, each}
 use Rattle.counting.proofs.Ranges.{below-suc}
 
@@ -57,3 +57,9 @@ module _ (g : ℕ → ℕ) where
   unfolding gather total sumBelow
   each-total zero = refl
   each-total (suc n) = total-last (each n g) (g n) ∙ omega (arith, each-total n)
+
+-- a list of n is what stands at each of its places
+pub each-of : (l : List ℕ) (n : ℕ) → length l ≡ n → l ≡ each n (λ k. getD l k 0)
+each-of l n long =
+    let at : ℕ → ℕ = λ k. getD l k 0 in
+    ext-getD 0 l (each n at) (long ∙ sym (each-length at n)) (λ k h. sym (each-at at n k (omega arith)))

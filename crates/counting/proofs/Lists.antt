@@ -10,7 +10,7 @@ use lib.ListN.{length, getD, drop, drop-of-length-le}
 use lib.Seq.{drop-cons}
 use Rattle.counting.specs.Choose.{one}
 use Rattle.counting.specs.Count.{count, everyOf, total}
-use Rattle.counting.proofs.Tests.{and-true, both}
+use Rattle.counting.proofs.Tests.{and-true, both, one-le, one-true}
 
 -- ---- count: a loop at place i that has found n
 
@@ -49,6 +49,31 @@ unfolding everyOf
 everyOf-at f [] e k h = absurd (omega arith)
 everyOf-at f (x ∷ xs) e zero h = and-true (f x) (everyOf f xs) e .0
 everyOf-at f (x ∷ xs) e (suc k) h = everyOf-at f xs (and-true (f x) (everyOf f xs) e .1) k (omega arith)
+
+-- of lists that are put together
+pub count-both : (f : ℕ → Bool) (a b : List ℕ) → count f (a ++ b) ≡ count f a + count f b
+unfolding count
+count-both f [] b = omega arith
+count-both f (x ∷ xs) b = omega (arith, count-both f xs b)
+
+-- as many pass as there are exactly where each passes
+pub count-most : (f : ℕ → Bool) (xs : List ℕ) → count f xs ≤ length xs
+unfolding count
+count-most f [] = omega arith
+count-most f (x ∷ xs) = omega (arith, one-le (f x), count-most f xs)
+
+pub count-all : (f : ℕ → Bool) (xs : List ℕ) → count f xs ≡ length xs → everyOf f xs ≡ true
+unfolding count everyOf
+count-all f [] e = refl
+count-all f (x ∷ xs) e =
+    let most = one-le (f x) in
+    let rest = count-most f xs in
+    both (f x) (everyOf f xs) (one-true (f x) (omega arith)) (count-all f xs (omega arith))
+
+pub all-count : (f : ℕ → Bool) (xs : List ℕ) → everyOf f xs ≡ true → count f xs ≡ length xs
+unfolding count everyOf
+all-count f [] e = refl
+all-count f (x ∷ xs) e = let p = and-true (f x) (everyOf f xs) e in omega (arith, ap one (p .0), all-count f xs (p .1))
 
 -- of lists that are put together or cut
 module _ (f : ℕ → Bool) where

@@ -2,15 +2,15 @@
 -- rows of numbers of which one is nowhere above the other and has no smaller sum are the same row.
 -- Assumes nothing.
 use Prim.Native.Nat.{ℕ, zero, suc, _+_, _≤_, _<_}
-use mathlib.Core.Path.{_≡_, refl, ap}
-use mathlib.Core.Bool.{Bool, true, false}
+use mathlib.Core.Path.{_≡_, refl, ap, _∙_}
+use mathlib.Core.Bool.{Bool, true, false, _&&_}
 use mathlib.Core.List.{List, [], _∷_}
 use native.Mathlib.Omega.{arith}
 use lib.Dec.{eqb, ltb}
 use lib.ListN.{length, getD}
 use borrow.Author.Tests.{eqb-true, eqb-false, ne-eqb, ltb-true, ltb-false}
 use Rattle.counting.specs.Choose.{one}
-use Rattle.counting.specs.Count.{count, sumBelow}
+use Rattle.counting.specs.Count.{count, everyOf, tally, sumBelow}
 use Rattle.counting.proofs.Ranges.{below-suc}
 
 -- how many of the list have the key r
@@ -66,7 +66,21 @@ heaps-whole key n (x ∷ xs) low =
       heaps-whole key n xs (λ k h. low (suc k) (omega arith)),
     )
 
-sum-le : (n : ℕ) (f g : ℕ → ℕ) → ((r : ℕ) → r < n → f r ≤ g r) → sumBelow n f ≤ sumBelow n g
+-- keys that are all on the heaps are all below n
+pub heaps-full : (key : ℕ → ℕ) (n : ℕ) (xs : List ℕ) → sumBelow n (heap key xs) ≡ length xs → everyOf (λ x. ltb (key x) n) xs ≡ true
+unfolding count everyOf
+heaps-full key n [] e = refl
+heaps-full key n (x ∷ xs) e = go (ltb (key x) n) refl (heaps-full key n xs)
+  where
+    parts : sumBelow n (heap key (x ∷ xs)) ≡ sumBelow n (λ r. one (eqb (key x) r)) + sumBelow n (heap key xs)
+    parts = sum-add n (λ r. one (eqb (key x) r)) (heap key xs)
+
+    go : (b : Bool) → ltb (key x) n ≡ b → (sumBelow n (heap key xs) ≡ length xs → everyOf (λ y. ltb (key y) n) xs ≡ true)
+        → (b && everyOf (λ y. ltb (key y) n) xs) ≡ true
+    go true t rest = rest (omega (arith, parts, on-its-heap n (key x) (ltb-true (key x) n t)))
+    go false t rest = absurd (omega (arith, parts, above n (key x) (ltb-false (key x) n t), heaps-within key n xs))
+
+pub sum-le : (n : ℕ) (f g : ℕ → ℕ) → ((r : ℕ) → r < n → f r ≤ g r) → sumBelow n f ≤ sumBelow n g
 unfolding sumBelow
 sum-le zero f g h = omega arith
 sum-le (suc n) f g h = omega (arith, h n (omega arith), sum-le n f g (λ r p. h r (omega arith)))
@@ -81,3 +95,18 @@ squeezed zero f g h s r p = absurd (omega arith)
 squeezed (suc n) f g h s r p =
     let low : (k : ℕ) → k < n → f k ≤ g k = λ k q. h k (omega arith) in
     below-suc (λ k. f k ≡ g k) n r p (omega (arith, h n (omega arith), sum-le n f g low)) (squeezed n f g low (omega (arith, h n (omega arith), sum-le n f g low)) r)
+
+pub sum-none : (n : ℕ) (g : ℕ → ℕ) → ((r : ℕ) → r < n → g r ≡ 0) → sumBelow n g ≡ 0
+sum-none n g e = sum-same n g (λ r. 0) e ∙ sum-zero n
+
+-- no number is above the sum
+pub sum-at : (n : ℕ) (g : ℕ → ℕ) (r : ℕ) → r < n → g r ≤ sumBelow n g
+unfolding sumBelow
+sum-at zero g r h = absurd (omega arith)
+sum-at (suc n) g r h = below-suc (λ k. g k ≤ g n + sumBelow n g) n r h (omega arith) (λ l. omega (arith, sum-at n g r l))
+
+-- how many pass is the sum of the tests as numbers
+pub tally-sum : (n : ℕ) (f : ℕ → Bool) → tally n f ≡ sumBelow n (λ r. one (f r))
+unfolding tally sumBelow
+tally-sum zero f = refl
+tally-sum (suc n) f = omega (arith, tally-sum n f)

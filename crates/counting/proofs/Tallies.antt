@@ -8,7 +8,6 @@ use native.Mathlib.Nat.{add-mul, mul-add}
 use native.Mathlib.Omega.{arith}
 use lib.Dec.{eqb}
 use lib.ListN.{length, getD}
-use lib.Seq.{ext-getD}
 use borrow.Author.Tests.{eqb-true, eqb-false}
 use Rattle.counting.specs.Choose.{one}
 use Rattle.counting.specs.Count.{tally, sumBelow, everyOf, total, gather, each}
@@ -16,7 +15,7 @@ use Rattle.counting.proofs.Tests.{both}
 use Rattle.counting.proofs.Ranges.{below-suc}
 use Rattle.counting.proofs.Lists.{everyOf-both}
 use Rattle.counting.proofs.Sums.{on-its-heap}
-use Rattle.counting.proofs.Gathers.{each-length, each-at, each-total}
+use Rattle.counting.proofs.Gathers.{each-of, each-total}
 
 -- ---- how many pass
 
@@ -83,9 +82,7 @@ total-at (x ∷ l) (suc k) = omega (arith, total-at l k)
 -- a total is the sum of what stands at each place
 pub total-sum : (l : List ℕ) (n : ℕ) → length l ≡ n → total l ≡ sumBelow n (λ k. getD l k 0)
 total-sum l n long =
-    let at : ℕ → ℕ = λ k. getD l k 0 in
-    let same : l ≡ each n at = ext-getD 0 l (each n at) (long ∙ sym (each-length at n)) (λ k h. sym (each-at at n k (omega arith))) in
-    ap total same ∙ each-total at n
+    ap total (each-of l n long) ∙ each-total (λ k. getD l k 0) n
 
 -- a test of each number of a list that is made place by place
 pub every-each : (f : ℕ → Bool) (g : ℕ → ℕ) (n : ℕ) → ((k : ℕ) → k < n → f (g k) ≡ true) → everyOf f (each n g) ≡ true

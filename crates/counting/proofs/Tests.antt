@@ -1,7 +1,7 @@
 -- Tests taken apart and put together.
 -- Assumes nothing.
 use Prim.Native.Nat.{ℕ, suc, _≤_, _<_}
-use mathlib.Core.Path.{_≡_, refl}
+use mathlib.Core.Path.{_≡_, refl, sym}
 use mathlib.Core.Bool.{Bool, true, false, not, _&&_, _||_, or-true}
 use native.Mathlib.Omega.{arith}
 use lib.Dec.{eqb}
@@ -26,6 +26,12 @@ same-test true true f g = refl
 same-test true false f g = clash true refl (g refl)
 same-test false true f g = clash true refl (f refl)
 same-test false false f g = refl
+
+-- and so are two that hold on the same grounds
+pub same-true : (a b : Bool) → (a ≡ true → b ≡ true) → (b ≡ true → a ≡ true) → a ≡ b
+same-true true b f g = sym (f refl)
+same-true false true f g = g refl
+same-true false false f g = refl
 
 pub one-le : (b : Bool) → one b ≤ 1
 one-le true = omega arith

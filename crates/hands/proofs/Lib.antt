@@ -1,2 +1,3 @@
 pub mod Highest
 pub mod Refusals
+pub mod Runs

@@ -7,16 +7,17 @@ use mathlib.Core.Path.{_≡_, refl}
 use mathlib.Core.Bool.{Bool, true, false, not, _&&_, _||_}
 use mathlib.Core.List.{List, [], _∷_}
 use native.Mathlib.Omega.{arith}
-use lib.Dec.{eqb, leb}
+use lib.Dec.{eqb}
 use lib.ListN.{length}
-use borrow.Author.Tests.{eqb-true, eq-eqb, leb-true}
+use borrow.Author.Tests.{eqb-true, eq-eqb}
 use Rattle.counting.specs.Choose.{one}
 use Rattle.counting.specs.Count.{count, everyBelow, someBelow, sumBelow}
 use Rattle.counting.proofs.Tests.{one-le, one-true}
-use Rattle.counting.proofs.Ranges.{every-at, some-where}
-use Rattle.counting.proofs.Sums.{sum-add, sum-same, on-its-heap, heaps-within, squeezed}
+use Rattle.counting.proofs.Ranges.{every-at}
+use Rattle.counting.proofs.Sums.{sum-add, sum-same, on-its-heap, heaps-within}
 use Rattle.cards.specs.Card.{rank, suit}
-use Rattle.hands.specs.Hand.{ofRank, ofSuit, rankOn, run}
+use Rattle.hands.specs.Hand.{ofRank, ofSuit, rankOn}
+use Rattle.hands.proofs.Runs.{onRun, run-ranks}
 use Rattle.names.specs.Five.{nameFive}
 use Rattle.names.specs.Top.{isRoyal, isTop}
 use Rattle.tops.specs.Run.{SuitedRun, Apart}
@@ -24,37 +25,10 @@ use Rattle.tops.proofs.Names.{royal-is, top-is}
 
 -- ---- the ranks of a run
 
--- the rank r is one of the five of the run from number p on
-onRun : ℕ → ℕ → Bool
-onRun p r = someBelow 5 (λ i. eqb (rankOn (p + i)) r)
-
--- a run has five ranks: a test over the ten runs
-hasFive : ℕ → Bool
-hasFive p = eqb (sumBelow 13 (λ r. one (onRun p r))) 5
-
-five-ranks : everyBelow 10 (λ i. hasFive (i + 1)) ≡ true
-unfolding everyBelow sumBelow someBelow onRun rankOn hasFive
-five-ranks = refl
-
-occurs : (h : ℕ → ℕ) (p r : ℕ) → run 5 p h ≡ true → one (onRun p r) ≤ h r
-unfolding run onRun
-occurs h p r e = go (onRun p r) refl
-  where
-    go : (b : Bool) → onRun p r ≡ b → one b ≤ h r
-    go true q =
-        let w = some-where (λ i. eqb (rankOn (p + i)) r) 5 q in
-        let same : rankOn (p + w .0) ≡ r = eqb-true _ _ (w .2) in
-        rw (← same) (leb-true 1 _ (every-at (λ i. leb 1 (h (rankOn (p + i)))) 5 e (w .0) (w .1)))
-    go false q = omega arith
-
 -- five cards that are a run have each of its ranks once, and no other
-ranks : (cs : List ℕ) (u p : ℕ) → length cs ≡ 5 → SuitedRun cs u p → (r : ℕ) → r < 13 → one (onRun p r) ≡ ofRank cs r
-unfolding ofRank hasFive
-ranks cs u p five s =
-    let e : p - 1 + 1 ≡ p = omega arith in
-    let test : hasFive p ≡ true = rw e at (every-at (λ i. hasFive (i + 1)) 10 five-ranks (p - 1) (omega arith)) in
-    let sum : sumBelow 13 (λ r. one (onRun p r)) ≡ 5 = eqb-true _ 5 test in
-    squeezed 13 (λ r. one (onRun p r)) (ofRank cs) (λ r h. occurs (ofRank cs) p r (s .inRun)) (omega (arith, heaps-within rank 13 cs))
+ranks : (cs : List ℕ) (u p : ℕ) → length cs ≡ 5 → SuitedRun cs u p → (r : ℕ) → r < 13 → one (onRun 5 p r) ≡ ofRank cs r
+unfolding ofRank
+ranks cs u p five s = run-ranks 5 p (omega arith) (s .starts .0) (omega arith) (ofRank cs) (omega (arith, heaps-within rank 13 cs)) (s .inRun)
 
 -- ---- two runs
 
@@ -63,7 +37,7 @@ apart p q = (p - q) + (q - p)
 
 -- the ranks of both runs
 common : ℕ → ℕ → ℕ
-common p q = sumBelow 13 (λ r. one (onRun p r && onRun q r))
+common p q = sumBelow 13 (λ r. one (onRun 5 p r && onRun 5 q r))
 
 -- two runs that share three ranks start two numbers apart: a test over all pairs of runs
 farOff : ℕ → ℕ → Bool
@@ -116,14 +90,14 @@ module _ (a b c : ℕ) (ha : a < 52) (hb : b < 52) (hc : c < 52) where
       let t = suits a b c x y u (s .suited) in
       let t′ = suits a b c x′ y′ u′ (s′ .suited) in
       let at : ℕ → ℕ → ℕ = λ z r. one (eqb (rank z) r) in
-      let over : (r : ℕ) → r < 13 → one (onRun p r && onRun p′ r) ≡ at a r + (at b r + at c r) =
-      λ r h. both-have (onRun p r) (onRun p′ r) (eqb (rank x) r) (eqb (rank y) r) (eqb (rank x′) r) (eqb (rank y′) r)
+      let over : (r : ℕ) → r < 13 → one (onRun 5 p r && onRun 5 p′ r) ≡ at a r + (at b r + at c r) =
+      λ r h. both-have (onRun 5 p r) (onRun 5 p′ r) (eqb (rank x) r) (eqb (rank y) r) (eqb (rank x′) r) (eqb (rank y′) r)
       (at a r + (at b r + at c r)) (omega (arith, ranks (hand x y) u p refl s r h)) (omega (arith, ranks (hand x′ y′) u′ p′ refl s′ r h))
       (differ x x′ r (omega arith) (d .0 .0)) (differ x y′ r (omega arith) (d .0 .1)) (differ y x′ r (omega arith) (d .1 .0)) (differ y y′ r (omega arith) (d .1 .1)) in
       let three : common p p′ ≡ 3 =
       omega (
         arith,
-        sum-same 13 (λ r. one (onRun p r && onRun p′ r)) (λ r. at a r + (at b r + at c r)) over,
+        sum-same 13 (λ r. one (onRun 5 p r && onRun 5 p′ r)) (λ r. at a r + (at b r + at c r)) over,
         sum-add 13 (at a) (λ r. at b r + at c r),
         sum-add 13 (at b) (at c),
         on-its-heap 13 (rank a) (omega arith),
