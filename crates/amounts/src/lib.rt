@@ -59,7 +59,7 @@ pub fn hand_of(round: Round, k: u8) -> FiveName
     let antes = round.wagers.antes;
     let cards = round.deck.cards;
     let five = five_of(antes, cards, k);
-    names::five_of(&five)
+    names::five_by_word(five[0], five[1], five[2], five[3], five[4])
 }
 
 // The base of a seat that is still in, by what its pay table says of its hand.
@@ -112,7 +112,8 @@ pub fn board_pay_of(round: Round) -> Pay
     let antes = round.wagers.antes;
     let cards = round.deck.cards;
     let three = community_of(antes, cards);
-    odds::board_pay(round.table.board, names::board_of(&three))
+    let name = names::board_by_word(three[0], three[1], three[2]);
+    odds::board_pay(round.table.board, name)
 }
 
 // The cards are named only where there is a wager on them.
@@ -127,7 +128,8 @@ pub fn pocket_amount(round: Round, k: u8) -> u64
         return 0;
     }
     let two = hole_of(antes, cards, k);
-    let pay = odds::pocket_pay(round.table.pocket, names::pocket_of(&two));
+    let name = names::pocket_by_word(two[0], two[1]);
+    let pay = odds::pocket_pay(round.table.pocket, name);
     handed_back(pay, wager as u32)
 }
 
@@ -142,6 +144,7 @@ pub fn lo_amount(round: Round, k: u8) -> u64
         return 0;
     }
     let five = five_of(antes, cards, k);
-    let pay = odds::lo_pay(round.table.lo, names::lo_of(&five));
+    let name = names::lo_by_word(five[0], five[1], five[2], five[3], five[4]);
+    let pay = odds::lo_pay(round.table.lo, name);
     handed_back(pay, wager as u32)
 }

@@ -1,13 +1,17 @@
 -- An answer by its number: refused where that is not 0, and named where it is; and what the entries promise of it.
 -- Assumes nothing.
 use Prim.Native.Nat.{ℕ}
-use mathlib.Core.Path.{_≡_, refl, ap, _∙_}
+use mathlib.Core.Path.{_≡_, refl, sym, ap, _∙_}
 use mathlib.Core.Bool.{Bool}
 use mathlib.Core.List.{List, [], _∷_}
+use lib.ListN.{getD}
 use borrow.Author.Tests.{eq-eqb, ne-eqb}
 use Rattle.counting.specs.Choose.{if_then_else_, unlessRefused}
+use Rattle.counting.specs.Count.{each}
 use Rattle.counting.proofs.Answers.{by-number, by-values}
+use Rattle.counting.proofs.Gathers.{each-of}
 use Rattle.hands.specs.Hand.{handRefusal}
+use Rattle.hands.proofs.Refusals.{not-refused}
 use Rattle.names.specs.declared.FiveAnswer.{FiveAnswer}
 use Rattle.names.specs.declared.BoardAnswer.{BoardAnswer}
 use Rattle.names.specs.declared.PocketAnswer.{PocketAnswer}
@@ -26,6 +30,12 @@ module _ {Name Answer : Type 0} (named : Name → Answer) (refused : ℕ → Ans
   pub is-named : (n m : ℕ) → n ≡ m → n ≡ 0 → (given : Name) → given ≡ name → named given ≡ answer named refused m name
   unfolding answer
   is-named n m e z given same = rw (← e) (simp (eq-eqb n 0 z, same))
+
+-- Named by its numbers: cards that are not refused are as many as were asked for, and a list of n is the n numbers in it.
+pub is-named-by : {Name Answer : Type 0} (named : Name → Answer) (refused : ℕ → Answer) (name : List ℕ → Name) (n : ℕ) (cs : List ℕ) (refusal : ℕ)
+    → refusal ≡ handRefusal n cs → refusal ≡ 0 → (given : Name) → given ≡ name (each n (λ k. getD cs k 0)) → named given ≡ answer named refused (handRefusal n cs) (name cs)
+is-named-by named refused name n cs refusal e z given same =
+    is-named named refused (name cs) refusal (handRefusal n cs) e z given (same ∙ ap name (sym (each-of cs n (not-refused n cs (sym e ∙ z) .0))))
 
 -- what an entry promises of its answer r: which it is, its number, and its values
 abbrev pub Promised : {Answer : Type 0} → (Answer → ℕ) → (Answer → List ℕ) → ℕ → ℕ → Answer → Answer → Type 0

@@ -1,2 +1,4 @@
 pub mod Answers
+pub mod Fives
+pub mod Los
 pub mod Orders

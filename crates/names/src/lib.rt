@@ -2,8 +2,11 @@
 //
 // name_five, name_board, name_pocket and name_lo are the entries: each answers any bytes with the name or with refusal
 // 18 (another number of cards), then 11 (a card above 51, or a repeat). specs/ says what each answers, by how often
-// ranks and suits occur; the code counts in the same way and copies no hand. five_of, board_of, pocket_of and lo_of name
-// cards that a caller knows to be sound; on others they answer what the definition says.
+// ranks and suits occur.
+//
+// five_by_word, board_by_word, pocket_by_word and lo_by_word name five, three or two cards, any bytes, for callers that know them to be
+// sound. They count the ranks in one word (crate words): no hand is copied. five_of, board_of, pocket_of and lo_of name a list of any length,
+// longer than a word can count, and count in it rank by rank. All answer what the definition says.
 //
 // proofs/Orders.antt has the law that the order of the cards plays no part.
 ghost use mathlib.Core.Path.{_≡_};
@@ -138,6 +141,39 @@ fn lower_five(row: bool, three: bool, two_pair: bool, jacks: bool, sixes: bool) 
     FiveName::Other
 }
 
+// Five cards by their word. Where no rank occurs twice only straights and flushes are left to ask for; where one does, there is no straight.
+pub fn five_by_word(a: u8, b: u8, c: u8, d: u8, e: u8) -> FiveName
+    ensures { λ r. ⌜ r ≡ nameFive (a ∷ b ∷ c ∷ d ∷ e ∷ []) ⌝ }
+{
+    let word = words::word5(a, b, c, d, e);
+    let suited = words::is_suited5(a, b, c, d, e);
+    if words::is_apart(word) {
+        let row = words::is_straight5(word);
+        let lower = lower_five(row, false, false, false, false);
+        return upper_five(
+            suited & words::is_royal5(word),
+            suited & row,
+            false,
+            false,
+            suited,
+            lower,
+        );
+    }
+    let three = words::has_three(word);
+    let pairs = words::pairs_in(word);
+    let jacks = words::high_pairs_in(word);
+    let sixes = words::middle_pairs_in(word);
+    let lower = lower_five(false, three, pairs == 2, jacks == 1, sixes == 1);
+    upper_five(
+        false,
+        false,
+        words::has_four(word),
+        three & (pairs == 1),
+        suited,
+        lower,
+    )
+}
+
 pub fn five_of(cards: &[u8]) -> FiveName
     ensures { λ r. ⌜ r ≡ nameFive (now (cards .entry)) ⌝ }
 {
@@ -167,7 +203,7 @@ pub fn name_five(cards: &[u8]) -> FiveAnswer
     if refusal != 0 {
         return FiveAnswer::Refused(refusal);
     }
-    FiveAnswer::Name(five_of(cards))
+    FiveAnswer::Name(five_by_word(cards[0], cards[1], cards[2], cards[3], cards[4]))
 }
 
 fn upper_board(royal: bool, run: bool, three: bool, row: bool, lower: BoardName) -> BoardName
@@ -210,6 +246,22 @@ fn lower_board(suited: bool, pair: bool) -> BoardName
     BoardName::Other
 }
 
+pub fn board_by_word(a: u8, b: u8, c: u8) -> BoardName
+    ensures { λ r. ⌜ r ≡ nameBoard (a ∷ b ∷ c ∷ []) ⌝ }
+{
+    let word = words::word3(a, b, c);
+    let suited = words::is_suited3(a, b, c);
+    let row = words::is_straight3(word);
+    let lower = lower_board(suited, words::pairs_in(word) == 1);
+    upper_board(
+        suited & words::is_royal3(word),
+        suited & row,
+        words::has_three(word),
+        row,
+        lower,
+    )
+}
+
 pub fn board_of(cards: &[u8]) -> BoardName
     ensures { λ r. ⌜ r ≡ nameBoard (now (cards .entry)) ⌝ }
 {
@@ -234,7 +286,7 @@ pub fn name_board(cards: &[u8]) -> BoardAnswer
     if refusal != 0 {
         return BoardAnswer::Refused(refusal);
     }
-    BoardAnswer::Name(board_of(cards))
+    BoardAnswer::Name(board_by_word(cards[0], cards[1], cards[2]))
 }
 
 // One ace, and one of jack, queen and king.
@@ -268,6 +320,20 @@ fn first_pocket(aces: bool, suited: bool, face: bool, pair: bool) -> PocketName
     PocketName::Nothing
 }
 
+pub fn pocket_by_word(a: u8, b: u8) -> PocketName
+    ensures { λ r. ⌜ r ≡ namePocket (a ∷ b ∷ []) ⌝ }
+{
+    let word = words::word2(a, b);
+    let aces = words::aces_in(word);
+    let face = (aces == 1) & words::has_face(word);
+    first_pocket(
+        aces == 2,
+        face & words::is_suited2(a, b),
+        face,
+        words::pairs_in(word) == 1,
+    )
+}
+
 pub fn pocket_of(cards: &[u8]) -> PocketName
     ensures { λ r. ⌜ r ≡ namePocket (now (cards .entry)) ⌝ }
 {
@@ -289,7 +355,7 @@ pub fn name_pocket(cards: &[u8]) -> PocketAnswer
     if refusal != 0 {
         return PocketAnswer::Refused(refusal);
     }
-    PocketAnswer::Name(pocket_of(cards))
+    PocketAnswer::Name(pocket_by_word(cards[0], cards[1]))
 }
 
 fn is_lo(cards: &[u8]) -> bool
@@ -297,6 +363,29 @@ fn is_lo(cards: &[u8]) -> bool
 {
     let apart = hands::kinds_of(cards, 1, 0, 13) == 5;
     apart & !hands::is_straight(cards, 5) & !hands::is_flush(cards, 5)
+}
+
+// The ranks of five cards all differ, and there is no straight or flush.
+fn is_lo_by_word(a: u8, b: u8, c: u8, d: u8, e: u8) -> bool
+    ensures { λ r. ⌜ r ≡ isLo (ofRank (a ∷ b ∷ c ∷ d ∷ e ∷ [])) (ofSuit (a ∷ b ∷ c ∷ d ∷ e ∷ [])) ⌝ }
+{
+    let row = words::is_straight5(words::word5(a, b, c, d, e));
+    words::are_five(a, b, c, d, e) & !row & !words::is_suited5(a, b, c, d, e)
+}
+
+fn lo_named(low: bool, top: u8) -> LoName
+    ensures { λ r. ⌜ r ≡ (if low then LoName.High top else LoName.Nothing) ⌝ }
+{
+    if low {
+        return LoName::High(top);
+    }
+    LoName::Nothing
+}
+
+pub fn lo_by_word(a: u8, b: u8, c: u8, d: u8, e: u8) -> LoName
+    ensures { λ r. ⌜ r ≡ nameLo (a ∷ b ∷ c ∷ d ∷ e ∷ []) ⌝ }
+{
+    lo_named(is_lo_by_word(a, b, c, d, e), words::top_rank(a, b, c, d, e))
 }
 
 pub fn lo_of(cards: &[u8]) -> LoName
@@ -317,5 +406,5 @@ pub fn name_lo(cards: &[u8]) -> LoAnswer
     if refusal != 0 {
         return LoAnswer::Refused(refusal);
     }
-    LoAnswer::Name(lo_of(cards))
+    LoAnswer::Name(lo_by_word(cards[0], cards[1], cards[2], cards[3], cards[4]))
 }

@@ -1,5 +1,6 @@
 use mathlib.Core.Path.{sym, _∙_}
 use Rattle.pays.proofs.Amounts.{nothing-back}
+use Rattle.holding.specs.Deal.{hole, community, five}
 use Rattle.amounts.specs.Sides.{loPayOf, loAmount}
 use borrow.Author.Needs.{needs}
 use Rattle.amounts.proofs.lo_amount.Statement.{statement}
@@ -15,11 +16,23 @@ returns c = rw (sym (c .before .at7 .ensures) ∙ c .if1 .taken, nothing-back)
 five-of-requires : tie.Need-five-of-requires
 five-of-requires c κs = search needs
 
-slice-aggregate-lo-of : tie.Need-slice-aggregate-lo-of
-slice-aggregate-lo-of c = search needs
+array-read-lo-by-word : tie.Need-array-read-lo-by-word
+array-read-lo-by-word c = search needs
 
-lo-of-requires : tie.Need-lo-of-requires
-lo-of-requires c κs = search needs
+array-read-lo-by-word-2 : tie.Need-array-read-lo-by-word-2
+array-read-lo-by-word-2 c = search needs
+
+array-read-lo-by-word-3 : tie.Need-array-read-lo-by-word-3
+array-read-lo-by-word-3 c = search needs
+
+array-read-lo-by-word-4 : tie.Need-array-read-lo-by-word-4
+array-read-lo-by-word-4 c = search needs
+
+array-read-lo-by-word-5 : tie.Need-array-read-lo-by-word-5
+array-read-lo-by-word-5 c = search needs
+
+lo-by-word-requires : tie.Need-lo-by-word-requires
+lo-by-word-requires c κs = search needs
 
 lo-pay-requires : tie.Need-lo-pay-requires
 lo-pay-requires c κs = search needs
@@ -31,8 +44,8 @@ handed-back-requires : tie.Need-handed-back-requires
 handed-back-requires c κs = search needs
 
 returns-2 : tie.Need-returns-2
-unfolding loPayOf loAmount
-returns-2 c = simp (c .handed-back .ensures, c .before .lo-pay .ensures, c .before .before .lo-of .ensures, c .before .before .before .before .five-of .ensures, c .before .before .before .before .before .before .at7 .ensures)
+unfolding loPayOf loAmount five community hole
+returns-2 c = simp (c .handed-back .ensures, c .before .lo-pay .ensures, c .before .before .lo-by-word .ensures, c .before .before .before .five-of .ensures, c .before .before .before .before .before .at7 .ensures)
 
 pub lo-amount-spec : {M : Type 1} → statement M
 lo-amount-spec =
@@ -41,8 +54,12 @@ lo-amount-spec =
     at7-requires
     returns
     five-of-requires
-    slice-aggregate-lo-of
-    lo-of-requires
+    array-read-lo-by-word
+    array-read-lo-by-word-2
+    array-read-lo-by-word-3
+    array-read-lo-by-word-4
+    array-read-lo-by-word-5
+    lo-by-word-requires
     lo-pay-requires
     cast-handed-back
     handed-back-requires

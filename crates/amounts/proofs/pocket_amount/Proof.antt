@@ -1,7 +1,8 @@
 use mathlib.Core.Path.{sym, _∙_}
-use Rattle.pays.proofs.Amounts.{nothing-back}
-use Rattle.amounts.specs.Sides.{pocketPayOf, pocketAmount}
 use borrow.Author.Needs.{needs}
+use Rattle.pays.proofs.Amounts.{nothing-back}
+use Rattle.holding.specs.Deal.{hole}
+use Rattle.amounts.specs.Sides.{pocketPayOf, pocketAmount}
 use Rattle.amounts.proofs.pocket_amount.Statement.{statement}
 use Rattle.amounts.proofs.pocket_amount.Tie as tie
 
@@ -15,11 +16,14 @@ returns c = rw (sym (c .before .at7 .ensures) ∙ c .if1 .taken, nothing-back)
 hole-of-requires : tie.Need-hole-of-requires
 hole-of-requires c κs = search needs
 
-slice-aggregate-pocket-of : tie.Need-slice-aggregate-pocket-of
-slice-aggregate-pocket-of c = search needs
+array-read-pocket-by-word : tie.Need-array-read-pocket-by-word
+array-read-pocket-by-word c = search needs
 
-pocket-of-requires : tie.Need-pocket-of-requires
-pocket-of-requires c κs = search needs
+array-read-pocket-by-word-2 : tie.Need-array-read-pocket-by-word-2
+array-read-pocket-by-word-2 c = search needs
+
+pocket-by-word-requires : tie.Need-pocket-by-word-requires
+pocket-by-word-requires c κs = search needs
 
 pocket-pay-requires : tie.Need-pocket-pay-requires
 pocket-pay-requires c κs = search needs
@@ -31,8 +35,8 @@ handed-back-requires : tie.Need-handed-back-requires
 handed-back-requires c κs = search needs
 
 returns-2 : tie.Need-returns-2
-unfolding pocketPayOf pocketAmount
-returns-2 c = simp (c .handed-back .ensures, c .before .pocket-pay .ensures, c .before .before .pocket-of .ensures, c .before .before .before .before .hole-of .ensures, c .before .before .before .before .before .before .at7 .ensures)
+unfolding pocketPayOf pocketAmount hole
+returns-2 c = simp (c .handed-back .ensures, c .before .pocket-pay .ensures, c .before .before .pocket-by-word .ensures, c .before .before .before .hole-of .ensures, c .before .before .before .before .before .at7 .ensures)
 
 pub pocket-amount-spec : {M : Type 1} → statement M
 pocket-amount-spec =
@@ -41,8 +45,9 @@ pocket-amount-spec =
     at7-requires
     returns
     hole-of-requires
-    slice-aggregate-pocket-of
-    pocket-of-requires
+    array-read-pocket-by-word
+    array-read-pocket-by-word-2
+    pocket-by-word-requires
     pocket-pay-requires
     cast-handed-back
     handed-back-requires
