@@ -19,6 +19,9 @@ extern "C" {
 /* How long a results list is: seats 1 to 7, four amounts each, in cents, in the order base, Board, Pocket, Lo Ball. */
 #define RIPPLEHATCH_RESULTS 28
 
+/* What Lo Ball calls cards that have no high rank: two of a rank, a straight or a flush. */
+#define RIPPLEHATCH_LO_NOTHING 13
+
 /* What a function answers: 0, or the refusal's number. Where several apply, a file is checked for 1, then 2, then record by record, and within a record the lowest
  * number applies; of cards 18 comes before 11, of a pool 19 before 20. */
 enum {
@@ -56,6 +59,9 @@ size_t ripplehatch_refused_part(const uint8_t *file, size_t bytes, size_t *lengt
 
 /* Names five cards. Answers 0, and *name is the place of the name in the list of names, from 0, a royal flush, to 10, other. Else answers 18 or 11. */
 uint8_t ripplehatch_name_five(const uint8_t *cards, size_t count, size_t *name);
+
+/* Names five cards for Lo Ball. Answers 0, and *high is the highest rank, from 0, a two, to 12, an ace, or RIPPLEHATCH_LO_NOTHING. Else answers 18 or 11. */
+uint8_t ripplehatch_name_lo(const uint8_t *cards, size_t count, size_t *high);
 
 /* Shares a maximum among up to seven wins, in dollars. Answers 0, and shares holds the share of each win; else answers 19 or 20. */
 uint8_t ripplehatch_share(const uint64_t *wins, size_t count, uint64_t maximum, uint64_t *shares, size_t room);

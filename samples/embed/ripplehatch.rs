@@ -1,4 +1,4 @@
-//! The library's functions for Rust: the four that ripplehatch.h declares, on slices and enums.
+//! The library's functions for Rust: the five that ripplehatch.h declares, on slices and enums.
 //!
 //! A slice goes as its pointer and its length. The slices are there, and no two of what is lent overlap: that is all that the library asks of
 //! a caller, so nothing here can be used wrongly.
@@ -6,6 +6,9 @@
 
 /// How long a results list is: seats 1 to 7, four amounts each, in cents, in the order base, Board, Pocket, Lo Ball.
 pub const RESULTS: usize = 28;
+
+/// What the library tells for a Lo Ball hand that has no high rank.
+const LO_NOTHING: usize = 13;
 
 extern "C" {
     fn ripplehatch_settle_file(
@@ -19,6 +22,7 @@ extern "C" {
     ) -> u8;
     fn ripplehatch_refused_part(file: *const u8, bytes: usize, length: &mut usize) -> usize;
     fn ripplehatch_name_five(cards: *const u8, count: usize, name: &mut usize) -> u8;
+    fn ripplehatch_name_lo(cards: *const u8, count: usize, high: &mut usize) -> u8;
     fn ripplehatch_share(
         wins: *const u64,
         count: usize,
@@ -78,6 +82,15 @@ pub fn name_five(cards: &[u8]) -> Result<usize, u8> {
     let mut name = 0;
     match unsafe { ripplehatch_name_five(cards.as_ptr(), cards.len(), &mut name) } {
         0 => Ok(name),
+        number => Err(number),
+    }
+}
+
+/// The five cards' highest rank for Lo Ball, 0 for a two to 12 for an ace, or None for nothing; or the refusal, 18 or 11.
+pub fn name_lo(cards: &[u8]) -> Result<Option<usize>, u8> {
+    let mut high = 0;
+    match unsafe { ripplehatch_name_lo(cards.as_ptr(), cards.len(), &mut high) } {
+        0 => Ok(Some(high).filter(|&rank| rank != LO_NOTHING)),
         number => Err(number),
     }
 }

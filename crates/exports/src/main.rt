@@ -2,8 +2,9 @@
 //
 // Standard input is the round file of document 01. Printed is a line for each call: the answer, then what is told in what was lent, where 7 stood before. The file
 // is settled whole (`file`), without its last byte (`odd`), without its table (`late`), and into 27 numbers: the number, the pool, the place, the list. Then comes
-// where each refused part begins and its length (`part`); what a royal flush, a straight flush, a repeat and four cards are called (`name`); and how the house's
-// own example is shared, into two numbers, and under 75,001 (`share`). A refusal leaves each 7 but the place.
+// where each refused part begins and its length (`part`); what a royal flush, a straight flush, a repeat and four cards are called (`name`); what 2-3-4-5-7 and
+// 2-3-4-5-6 of mixed suits, a repeat and four cards are for Lo Ball (`lo`); and how the house's own example is shared, into two numbers, and under 75,001
+// (`share`). A refusal leaves each 7 but the place.
 //
 // Example:
 //     ./run exports samples/whole-round.bin | tail -n 1
@@ -18,6 +19,7 @@ use pipes::print;
 use pipes::read_all;
 use pipes::tell;
 use ripplehatch::ripplehatch_name_five;
+use ripplehatch::ripplehatch_name_lo;
 use ripplehatch::ripplehatch_refused_part;
 use ripplehatch::ripplehatch_settle_file;
 use ripplehatch::ripplehatch_share;
@@ -74,6 +76,12 @@ fn ask_name(what: &[u8], cards: &[u8]) -> bool {
     write_numbers(what, &[number as u64, name as u64])
 }
 
+fn ask_lo(what: &[u8], cards: &[u8]) -> bool {
+    let mut high = 7;
+    let number = ripplehatch_name_lo(cards, &mut high);
+    write_numbers(what, &[number as u64, high as u64])
+}
+
 fn ask_share(what: &[u8], wins: &[u64], maximum: u64, room: usize) -> bool
     requires { ⌜ room ≤ 3 ⌝ }
 {
@@ -119,6 +127,19 @@ fn ask_names() -> bool {
     ask_name(b"name", &[50, 50, 34, 38])
 }
 
+fn ask_los() -> bool {
+    if !ask_lo(b"lo", &[0, 5, 10, 15, 20]) {
+        return false;
+    }
+    if !ask_lo(b"lo", &[0, 5, 10, 15, 16]) {
+        return false;
+    }
+    if !ask_lo(b"lo", &[0, 5, 10, 15, 0]) {
+        return false;
+    }
+    ask_lo(b"lo", &[0, 5, 10, 0])
+}
+
 fn ask_shares() -> bool {
     let wins = [20000u64, 10000, 500];
     if !ask_share(b"share", &wins, 25000, 3) {
@@ -139,6 +160,9 @@ fn ask_all(file: [u8; WHOLE]) -> Outcome {
         return Outcome::Fault;
     }
     if !ask_names() {
+        return Outcome::Fault;
+    }
+    if !ask_los() {
         return Outcome::Fault;
     }
     if !ask_shares() {

@@ -4,6 +4,9 @@ use Prim.Native.Nat.{ℕ}
 use Rattle.names.specs.declared.FiveAnswer.{FiveAnswer}
 use Rattle.names.specs.declared.FiveAnswer.the-variants.{Name, Refused}
 use Rattle.names.specs.Five.{fivePlace}
+use Rattle.names.specs.declared.LoAnswer.{LoAnswer}
+use Rattle.names.specs.declared.LoAnswer.the-variants.{Name as NameLo, Refused as RefusedLo}
+use Rattle.names.specs.Lo.{loHigh}
 use Rattle.settlement.specs.declared.FileSettlement.{FileSettlement}
 use Rattle.settlement.specs.declared.FileSettlement.the-variants.{Paid, Refused as RefusedFile}
 
@@ -26,3 +29,8 @@ placeTold (RefusedFile number place) was = place
 abbrev pub nameTold : FiveAnswer → ℕ → ℕ
 nameTold (Name name) was = fivePlace name
 nameTold (Refused number) was = was
+
+-- a Lo Ball name's high rank, and 13 for nothing
+abbrev pub loTold : LoAnswer → ℕ → ℕ
+loTold (NameLo name) was = loHigh name
+loTold (RefusedLo number) was = was

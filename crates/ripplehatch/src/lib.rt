@@ -3,7 +3,10 @@
 // ripplehatch.h declares them. Each answers a refusal's number, or 0, and tells the rest in what the caller lends; what is not told is left as it was,
 // so a refusal changes nothing that was lent but the place. None has a `requires`.
 use names::FiveAnswer;
+use names::LoAnswer;
+use names::LoName;
 use names::name_five;
+use names::name_lo;
 use odds::five_place;
 use pool::Shared;
 use pool::share;
@@ -15,10 +18,11 @@ ghost use mathlib.Core.Path.{_≡_};
 ghost use Prim.Native.Nat.{_*_};
 ghost use lib.ListN.{length};
 ghost use Rattle.names.specs.Five.{answerFive, fiveNumber};
+ghost use Rattle.names.specs.Lo.{answerLo, loHigh, loNumber};
 ghost use Rattle.pool.specs.Pool.{shareAnswer, shareList, numberOf};
 ghost use Rattle.reading.specs.File.{readFile, refusedPart};
 ghost use Rattle.settlement.specs.Settle.{fileAnswer, fileList, fileNumber};
-ghost use Rattle.ripplehatch.specs.Told.{fullTold, paidTold, placeTold, nameTold};
+ghost use Rattle.ripplehatch.specs.Told.{fullTold, paidTold, placeTold, nameTold, loTold};
 
 fn number_of(answer: FileSettlement) -> u8
     ensures { λ r. ⌜ r ≡ fileNumber answer ⌝ }
@@ -117,6 +121,44 @@ pub extern "C" fn ripplehatch_name_five(cards: &[u8], name: &mut usize) -> u8
     let answer = name_five(cards);
     *name = name_told(answer, *name);
     hand_number(answer)
+}
+
+fn lo_number(answer: LoAnswer) -> u8
+    ensures { λ r. ⌜ r ≡ loNumber answer ⌝ }
+{
+    match answer {
+        LoAnswer::Name(name) => 0,
+        LoAnswer::Refused(number) => number,
+    }
+}
+
+fn lo_high(name: LoName) -> usize
+    ensures { λ r. ⌜ r ≡ loHigh name ⌝ }
+{
+    match name {
+        LoName::High(rank) => rank as usize,
+        LoName::Nothing => 13,
+    }
+}
+
+fn lo_told(answer: LoAnswer, was: usize) -> usize
+    ensures { λ r. ⌜ r ≡ loTold answer was ⌝ }
+{
+    match answer {
+        LoAnswer::Name(name) => lo_high(name),
+        LoAnswer::Refused(number) => was,
+    }
+}
+
+// Names five cards for Lo Ball. Answers 0 and tells the high rank, 0 for a two to 12 for an ace, or 13 for nothing; or answers 18 or 11.
+#[no_mangle]
+pub extern "C" fn ripplehatch_name_lo(cards: &[u8], high: &mut usize) -> u8
+    ensures number { λ r. ⌜ r ≡ loNumber (answerLo (now (cards .entry))) ⌝ }
+    ensures high { λ r. ⌜ now (high .exit) ≡ loTold (answerLo (now (cards .entry))) (now (high .entry)) ⌝ }
+{
+    let answer = name_lo(cards);
+    *high = lo_told(answer, *high);
+    lo_number(answer)
 }
 
 fn share_number(answer: Shared) -> u8
