@@ -1,10 +1,12 @@
 //! Compares the cost of the proved settler with that of the one in oracle/, in one run, call beside call.
 //!
-//! usage: compare STREAM            the table, as lines of Markdown
+//! usage: compare STREAM PASSES     the table, as lines of Markdown: each kind of work is timed so often, and the fastest pass of each settler counts
 //!        compare STREAM proved     settles the stream with the proved settler alone, for a profiler
 //!
 //! STREAM is a file that `oracle generate` wrote. Both settlers are asked the same, and have to answer alike, before anything is timed.
 
+mod draws;
+mod naming;
 #[path = "../../../samples/embed/ripplehatch.rs"]
 mod proved;
 mod work;
@@ -15,8 +17,7 @@ use std::io::BufReader;
 use std::process::ExitCode;
 use work::Work;
 
-/// How often each kind of work is timed; the fastest pass of each settler counts.
-const PASSES: usize = 15;
+const USAGE: &str = "usage: compare STREAM PASSES, or compare STREAM proved";
 
 extern "C" {
     /// C's CPU time of the process, in millionths of a second on Linux.
@@ -37,15 +38,21 @@ fn least(a: f64, b: f64) -> f64 {
     }
 }
 
-fn print_row(work: &Work) {
+/// Nanoseconds, with one decimal below 100.
+fn told(each: f64) -> String {
+    let decimals = usize::from(each < 100.0);
+    format!("{each:.decimals$} ns")
+}
+
+fn print_row(work: &Work, passes: usize) {
     let (mut proved, mut oracle) = (f64::MAX, f64::MAX);
-    for _ in 0..PASSES {
+    for _ in 0..passes {
         proved = least(proved, seconds(&work.proved));
         oracle = least(oracle, seconds(&work.oracle));
     }
-    let each = |total: f64| total * 1e9 / work.calls as f64;
+    let each = |total: f64| told(total * 1e9 / work.calls as f64);
     println!(
-        "| {} | {} | {:.0} ns | {:.0} ns | {:.2} |",
+        "| {} | {} | {} | {} | {:.2} |",
         work.name,
         work.calls,
         each(proved),
@@ -54,12 +61,14 @@ fn print_row(work: &Work) {
     );
 }
 
-fn print_table(files: Vec<Vec<u8>>) -> Result<(), String> {
-    let works = [work::settling(files)?, work::naming()?, work::sharing()?];
+fn print_table(files: Vec<Vec<u8>>, passes: usize) -> Result<(), String> {
+    let mut works = vec![work::settling(files)?];
+    works.extend(naming::namings()?);
+    works.push(work::sharing()?);
     println!("| Work | inputs | proved, each | oracle, each | ratio |");
     println!("|---|---|---|---|---|");
     for work in &works {
-        print_row(work);
+        print_row(work, passes);
     }
     Ok(())
 }
@@ -77,12 +86,15 @@ fn files_of(path: &str) -> Result<Vec<Vec<u8>>, String> {
 fn run() -> Result<(), String> {
     let words: Vec<String> = std::env::args().skip(1).collect();
     match words.iter().map(String::as_str).collect::<Vec<_>>()[..] {
-        [stream] => print_table(files_of(stream)?),
         [stream, "proved"] => {
             work::prove_all(&files_of(stream)?);
             Ok(())
         }
-        _ => Err("usage: compare STREAM [proved]".to_string()),
+        [stream, passes] => {
+            let passes = passes.parse().map_err(|_| USAGE)?;
+            print_table(files_of(stream)?, passes)
+        }
+        _ => Err(USAGE.to_string()),
     }
 }
 

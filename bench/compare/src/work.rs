@@ -1,10 +1,11 @@
 //! What is timed: the same inputs for both settlers, and that they answer alike.
 
+use crate::draws::Draws;
 use crate::proved::{self, Answer};
-use oracle::names;
 use oracle::pool;
 use oracle::settle;
 use std::hint::black_box;
+use std::rc::Rc;
 
 /// One kind of work, done by either settler over all its inputs.
 pub struct Work {
@@ -24,10 +25,11 @@ pub fn settling(files: Vec<Vec<u8>>) -> Result<Work, String> {
             return Err(format!("the refused parts differ at file {n}"));
         }
     }
-    let (calls, other) = (files.len(), files.clone());
+    let files = Rc::new(files);
+    let other = Rc::clone(&files);
     Ok(Work {
         name: "settling a file",
-        calls,
+        calls: files.len(),
         proved: Box::new(move || each(&files, proved::settle)),
         oracle: Box::new(move || each(&other, settle::settle)),
     })
@@ -56,52 +58,10 @@ fn each<A>(files: &[Vec<u8>], answer: impl Fn(&[u8]) -> A) {
     }
 }
 
-/// Naming all hands of five cards, and two that are refused.
-pub fn naming() -> Result<Work, String> {
-    let hands = hands();
-    for hand in hands
-        .iter()
-        .map(|hand| &hand[..])
-        .chain([&[0; 4][..], &[0; 5], &[0, 4, 8, 12, 52]])
-    {
-        if proved::name_five(hand) != names::name_five(hand).map(|name| name as usize) {
-            return Err(format!("the names differ of {hand:?}"));
-        }
-    }
-    let (calls, other) = (hands.len(), hands.clone());
-    Ok(Work {
-        name: "naming five cards",
-        calls,
-        proved: Box::new(move || each_hand(&hands, proved::name_five)),
-        oracle: Box::new(move || each_hand(&other, names::name_five)),
-    })
-}
-
-fn each_hand<A>(hands: &[[u8; 5]], name: impl Fn(&[u8]) -> A) {
-    for hand in hands {
-        black_box(name(black_box(hand)));
-    }
-}
-
-/// All 2,598,960 hands of five cards.
-fn hands() -> Vec<[u8; 5]> {
-    let mut hands = Vec::new();
-    for a in 0..48 {
-        for b in a + 1..49 {
-            for c in b + 1..50 {
-                for d in c + 1..51 {
-                    hands.extend((d + 1..52).map(|e| [a, b, c, d, e]));
-                }
-            }
-        }
-    }
-    hands
-}
-
 /// Sharing the maximum among wins: pools of none to eight wins, within their limits and beyond, below the maximum and above.
 pub fn sharing() -> Result<Work, String> {
-    let pools = pools();
-    for wins in &pools {
+    let pools = Rc::new(pools());
+    for wins in pools.iter() {
         let (mut ours, mut theirs) = (vec![9; wins.len()], vec![9; wins.len()]);
         let same =
             proved::share(wins, MAXIMUM, &mut ours) == pool::share(wins, MAXIMUM, &mut theirs);
@@ -109,10 +69,10 @@ pub fn sharing() -> Result<Work, String> {
             return Err(format!("the shares differ of {wins:?}"));
         }
     }
-    let (calls, other) = (pools.len(), pools.clone());
+    let other = Rc::clone(&pools);
     Ok(Work {
         name: "sharing a pool",
-        calls,
+        calls: pools.len(),
         proved: Box::new(move || {
             each_pool(&pools, |wins, shares| proved::share(wins, MAXIMUM, shares))
         }),
@@ -133,17 +93,11 @@ fn each_pool<A>(pools: &[Vec<u64>], share: impl Fn(&[u64], &mut [u64]) -> A) {
 }
 
 fn pools() -> Vec<Vec<u64>> {
-    let mut state: u64 = 1;
-    let mut next = |below: u64| {
-        state = state
-            .wrapping_mul(6_364_136_223_846_793_005)
-            .wrapping_add(1_442_695_040_888_963_407);
-        (state >> 33) % below
-    };
+    let mut draws = Draws::from(1);
     (0..200_000)
         .map(|_| {
-            let (wins, most) = (next(9), [1_000, 20_000, 500_001][next(3) as usize]);
-            (0..wins).map(|_| next(most)).collect()
+            let (wins, most) = (draws.below(9), [1_000, 20_000, 500_001][draws.below(3)]);
+            (0..wins).map(|_| draws.below(most) as u64).collect()
         })
         .collect()
 }
