@@ -96,14 +96,19 @@ withFold p s k = record { raises = p .raises; folds = set (p .folds) k (s + 1) }
 abbrev pub withRaise : Play → ℕ → ℕ → ℕ → Play
 withRaise p s k c = record { raises = set (p .raises) (s * 7 + k) c; folds = p .folds }
 
--- what holds of both holds after the choice
-pub fold-or-raise : (P : Play → Type 0) (p : Play) (s k c : ℕ) → P (withFold p s k) → P (withRaise p s k c) → P (chosen p s k c)
+-- what holds after the fold where c is a fold, and after the raise where it is none, holds after the choice
+pub by-choice : (P : Play → Type 0) (p : Play) (s k c : ℕ) → (eqb c 0 ≡ true → P (withFold p s k)) → (eqb c 0 ≡ false → P (withRaise p s k c))
+    → P (chosen p s k c)
 unfolding chosen
-fold-or-raise P p s k c f r = go (eqb c 0)
+by-choice P p s k c f r = go (eqb c 0) refl
   where
-    go : (t : Bool) → P (if t then withFold p s k else withRaise p s k c)
+    go : (t : Bool) → eqb c 0 ≡ t → P (if t then withFold p s k else withRaise p s k c)
     go true = f
     go false = r
+
+-- and so does what holds after both
+pub fold-or-raise : (P : Play → Type 0) (p : Play) (s k c : ℕ) → P (withFold p s k) → P (withRaise p s k c) → P (chosen p s k c)
+fold-or-raise P p s k c f r = by-choice P p s k c (λ e. f) (λ e. r)
 
 pub choice-sized : (antes : List ℕ) (p : Play) (b : List ℕ) → Sized p → Sized (withChoice antes p b)
 choice-sized antes p b z =

@@ -15,7 +15,7 @@ use Rattle.counting.specs.Count.{everyOf}
 use Rattle.counting.proofs.Lists.{everyOf-at}
 
 -- the numbers that the test keeps, by place (the first is k) and value
-pub kept : (ℕ → ℕ → Bool) → ℕ → List ℕ → List ℕ
+unfoldable pub kept : (ℕ → ℕ → Bool) → ℕ → List ℕ → List ℕ
 kept f k [] = []
 kept f k (x ∷ xs) = (if f k x then x else 0) ∷ kept f (suc k) xs
 

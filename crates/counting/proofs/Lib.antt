@@ -9,4 +9,5 @@ pub mod Once
 pub mod Answers
 pub mod Gathers
 pub mod Fills
+pub mod Stores
 pub mod Tallies

@@ -96,26 +96,26 @@ whole d long fits four =
 -- ---- the test goes on holding
 
 module _ (d : Deck) (b : List ℕ) (long : length (d .cards) ≡ 52) (sixteen : length b ≡ 16) (room : d .parts < 4) where
-  thirteen : length (thirteenOf b) ≡ 13
-  thirteen = length-slice 2 15 b (omega arith)
+  pub part-thirteen : length (thirteenOf b) ≡ 13
+  part-thirteen = length-slice 2 15 b (omega arith)
 
   -- the cards read so far, the record's, and what is still to come
-  put-in : filled d b ≡ dealt d ++ thirteenOf b ++ drop (13 * d .parts + length (thirteenOf b)) (d .cards)
-  put-in = sets-eq (thirteenOf b) (d .cards) (13 * d .parts) (omega (arith, thirteen))
+  pub part-filled : filled d b ≡ dealt d ++ thirteenOf b ++ drop (13 * d .parts + length (thirteenOf b)) (d .cards)
+  part-filled = sets-eq (thirteenOf b) (d .cards) (13 * d .parts) (omega (arith, part-thirteen))
 
   so-far : length (dealt d ++ thirteenOf b) ≡ 13 * (d .parts + 1)
-  so-far = omega (arith, length-append (dealt d) (thirteenOf b), length-take-le (13 * d .parts) (d .cards) (omega arith), thirteen)
+  so-far = omega (arith, length-append (dealt d) (thirteenOf b), length-take-le (13 * d .parts) (d .cards) (omega arith), part-thirteen)
 
   cards-next : dealt (nextDeck d b) ≡ dealt d ++ thirteenOf b
   cards-next =
-      ap (take (13 * (d .parts + 1))) put-in
+      ap (take (13 * (d .parts + 1))) part-filled
       ∙ take-at (dealt d ++ thirteenOf b) (drop (13 * d .parts + length (thirteenOf b)) (d .cards)) (13 * (d .parts + 1)) so-far
 
   still : drop (13 * (d .parts + 1)) (filled d b) ≡ drop 13 (drop (13 * d .parts) (d .cards))
   still =
-      ap (drop (13 * (d .parts + 1))) put-in
+      ap (drop (13 * (d .parts + 1))) part-filled
       ∙ drop-at (dealt d ++ thirteenOf b) (drop (13 * d .parts + length (thirteenOf b)) (d .cards)) (13 * (d .parts + 1)) so-far
-      ∙ ap (λ (n : ℕ). drop (13 * d .parts + n) (d .cards)) thirteen
+      ∙ ap (λ (n : ℕ). drop (13 * d .parts + n) (d .cards)) part-thirteen
       ∙ sym (drop-drop 13 (13 * d .parts) (d .cards))
 
   zeros-still : deckFits d ≡ true → zeroFrom (13 * (d .parts + 1)) (filled d b) ≡ true

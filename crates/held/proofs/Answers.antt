@@ -1,6 +1,6 @@
 -- An answer that is the test's decides which rounds are held; and the two answers to a record, with their number.
 -- Assumes nothing.
-use mathlib.Core.Path.{_≡_, refl, sym, ap, _∙_}
+use mathlib.Core.Path.{_≡_, refl, sym, ap, subst, _∙_}
 use mathlib.Core.Bool.{Bool, true, false, not}
 use mathlib.Core.List.{List}
 use Prim.Native.Nat.{ℕ}
@@ -17,6 +17,10 @@ use Rattle.held.specs.Take.{Decides, takeRefusal, takes, Taken}
 
 pub decides : (r : Round) (t : Bool) → Long r → t ≡ isHeld r → Decides r t
 decides r t long e = record { test = e; led = λ h. held-led r long (sym e ∙ h); held = λ l. e ∙ led-held r l }
+
+-- so the test itself does
+pub decided : (r : Round) (t : Bool) → Decides r t → Decides r (isHeld r)
+decided r t d = subst (Decides r) (d .test) d
 
 pub taken-not : (r : Round) (b : List ℕ) (t : Bool) (s : Step) → Decides r t → t ≡ false → s ≡ refused 17 r → Taken r b s
 unfolding takes

@@ -14,13 +14,10 @@ use Rattle.round.specs.declared.Round.{Round}
 use Rattle.round.specs.Feed.{feed, withPlay}
 use Rattle.led.specs.Led.{isTaken, Leads}
 use Rattle.led.specs.Led.Leads.{then}
+use Rattle.led.specs.Records.{streetOf}
 use Rattle.led.proofs.Took.{Took, took, choice-none, choice-next}
 use Rattle.led.proofs.Took.Took.{table, seat, part, choice}
 use Rattle.led.proofs.Leading.{join, one}
-
--- the street that is open, as a number
-abbrev pub streetOf : Round → ℕ
-streetOf r = streetsOver (r .wagers .antes) (r .play)
 
 -- what an accepted choice has passed, and the round with it
 record Chose (r : Round) (b : List ℕ) (s : Round) : Type 0 where

@@ -30,7 +30,7 @@ use Rattle.round.specs.Order.{freshRound}
 use Rattle.round.specs.Feed.{withTable, withWagers, withDeck, withPlay}
 use Rattle.led.specs.Led.{Leads}
 use Rattle.led.specs.Held.{opened}
-use Rattle.led.specs.Records.{only, seatRecords, partRecords, streetRecords, choiceRecords, recordsOf}
+use Rattle.led.specs.Records.{only, seatRecords, partRecords, choiceIn, streetRecords, choiceRecords, recordsOf}
 use Rattle.led.proofs.Took.{table-none, table-next, seat-none, seat-next, part-none, part-next, choice-none, choice-next}
 use Rattle.led.proofs.Leading.{join, stay, one, places}
 use Rattle.led.proofs.Kept.{Long, Fits, now-opened}
@@ -140,8 +140,8 @@ module _ (r : Round) (long : Long r) (fits : Fits r) where
       let from : s * 7 + 0 ≡ s * 7 = omega arith in
       let to : s * 7 + 7 ≡ (s + 1) * 7 = omega arith in
       subst₂ (λ (i j : ℕ). Leads (playedTo i) (streetRecords r s) (playedTo j)) from to
-      (places (λ k. playedTo (s * 7 + k)) (λ k. only (hasChosen (r .play) s k) (choiceRecord k (raiseOn (r .play) s k))) 7
-      (λ k l. subst (λ (j : ℕ). Leads (playedTo (s * 7 + k)) (only (hasChosen (r .play) s k) (choiceRecord k (raiseOn (r .play) s k))) (playedTo j))
+      (places (λ k. playedTo (s * 7 + k)) (choiceIn (r .play) s) 7
+      (λ k l. subst (λ (j : ℕ). Leads (playedTo (s * 7 + k)) (choiceIn (r .play) s k) (playedTo j))
       (add-assoc (s * 7) k 1) (choice-by s k h l (hasChosen (r .play) s k) refl)))
 
   choices : Leads dealt (choiceRecords r) r

@@ -9,7 +9,8 @@ use Rattle.records.specs.Seats.{plays}
 use Rattle.seating.specs.Table.{hasTable, tableRecord}
 use Rattle.seating.specs.Seat.{seatRecord}
 use Rattle.dealing.specs.Part.{partRecord}
-use Rattle.choosing.specs.Streets.{raiseOn, hasChosen, choicesTaken}
+use Rattle.choosing.specs.declared.Play.{Play}
+use Rattle.choosing.specs.Streets.{raiseOn, hasChosen, streetsOver, choicesTaken}
 use Rattle.choosing.specs.Choice.{choiceRecord}
 use Rattle.round.specs.declared.Round.{Round}
 
@@ -26,15 +27,23 @@ seatRecords r = gather 7 (λ k. only (plays (r .wagers .antes) k) (seatRecord (r
 abbrev pub partRecords : Round → List (List ℕ)
 partRecords r = gather (r .deck .parts) (λ n. partRecord (r .deck) n ∷ [])
 
+-- that of the seat at place k on street s
+abbrev pub choiceIn : Play → ℕ → ℕ → List (List ℕ)
+choiceIn p s k = only (hasChosen p s k) (choiceRecord k (raiseOn p s k))
+
 -- those of street s
 abbrev pub streetRecords : Round → ℕ → List (List ℕ)
-streetRecords r s = gather 7 (λ k. only (hasChosen (r .play) s k) (choiceRecord k (raiseOn (r .play) s k)))
+streetRecords r s = gather 7 (choiceIn (r .play) s)
 
 abbrev pub choiceRecords : Round → List (List ℕ)
 choiceRecords r = gather 3 (streetRecords r)
 
 unfoldable pub recordsOf : Round → List (List ℕ)
 recordsOf r = tableRecords r ++ (seatRecords r ++ (partRecords r ++ choiceRecords r))
+
+-- the street that is open, 3 where all are over
+abbrev pub streetOf : Round → ℕ
+streetOf r = streetsOver (r .wagers .antes) (r .play)
 
 -- how many records a round has taken: its table, its seats, its deck parts, its choices
 unfoldable pub recordsTaken : Round → ℕ

@@ -6,8 +6,8 @@ use mathlib.Core.Bool.{Bool, true, false, not}
 use mathlib.Core.List.{List, [], _∷_, _++_}
 use native.Mathlib.Omega.{arith}
 use lib.Dec.{eqb, ltb}
-use lib.ListN.{length, take, drop}
-use borrow.Author.Tests.{ne-eqb, eqb-false}
+use lib.ListN.{length, take, drop, length-append}
+use borrow.Author.Tests.{ne-eqb, eqb-true, eqb-false}
 use Rattle.counting.specs.Choose.{if_then_else_}
 use Rattle.counting.proofs.Lists.{everyOf-left, everyOf-right}
 use Rattle.records.specs.Bytes.{areBytes}
@@ -24,7 +24,7 @@ use Rattle.led.proofs.Kept.{Long, Fits, fits-held, fresh-long, fresh-fits, take
 use Rattle.reading.specs.declared.Reading.{Reading}
 use Rattle.reading.specs.File.{fileRecords, stop, readBy, readRecords, readFile}
 use Rattle.reading.specs.Joined.{joined, Whole}
-use Rattle.reading.proofs.Records.{records-cons, records-end, records-count, records-bytes, records-joined, joined-length}
+use Rattle.reading.proofs.Records.{records-cons, records-end, records-count, records-bytes, records-joined, records-behind, joined-length}
 
 -- ---- one record
 
@@ -122,6 +122,15 @@ records-refused bs cs =
     (λ r p b bs a n. read-stops feed r p b (bs ++ cs) a)
     bs freshRound 0
 
+-- and where none is refused reading goes on with them
+pub records-on : (bs cs : List (List ℕ)) → readRecords bs .number ≡ 0 → readRecords (bs ++ cs) ≡ readBy feed (readRecords bs .round) (readRecords bs .place) cs
+records-on bs cs =
+    along feed (λ r p bs w. w .number ≡ 0 → readBy feed r p (bs ++ cs) ≡ readBy feed (w .round) (w .place) cs)
+    (λ r p z. refl)
+    (λ r p b bs w a h z. read-on feed r p b (bs ++ cs) a ∙ h z)
+    (λ r p b bs a z. absurd (eqb-false (numberOf (feed r b .answer)) 0 a z))
+    bs freshRound 0
+
 -- records of which none is refused lead to the round
 pub records-lead : (bs : List (List ℕ)) → areBytes (joined bs) ≡ true → readRecords bs .number ≡ 0 → Leads freshRound bs (readRecords bs .round)
 unfolding joined areBytes
@@ -180,6 +189,24 @@ read-count l =
     file-either (λ w. w .number ≡ 0 → w .place ≡ length l / 16) l
     (λ z. absurd (omega arith))
     (λ z. records-read (fileRecords l) z ∙ records-count l)
+
+-- a file with an odd tail is refused
+pub read-even : (l : List ℕ) → readFile l .number ≡ 0 → length l % 16 ≡ 0
+unfolding readFile
+read-even l = go (eqb (length l % 16) 0) refl
+  where
+    go : (t : Bool) → eqb (length l % 16) 0 ≡ t → (if not t then stop freshRound 2 (length l / 16) else readRecords (fileRecords l)) .number ≡ 0 → length l % 16 ≡ 0
+    go true e z = eqb-true (length l % 16) 0 e
+    go false e z = absurd (omega arith)
+
+-- a record behind a file of accepted ones is the next to be read
+pub read-behind : (l b : List ℕ) → readFile l .number ≡ 0 → length b ≡ 16 → readFile (l ++ b) ≡ readBy feed (readFile l .round) (readFile l .place) (b ∷ [])
+unfolding readFile
+read-behind l b z long =
+    let even = read-even l z in
+    let more : length (l ++ b) % 16 ≡ 0 = omega (arith, length-append l b) in
+    let is : readFile l ≡ readRecords (fileRecords l) = simp even in
+    simp (more, even, records-behind l b even long) (records-on (fileRecords l) (b ∷ []) (rw is at z))
 
 pub read-number : (l : List ℕ) → readFile l .number ≤ 15
 read-number l = file-either (λ w. w .number ≤ 15) l (omega arith) (records-number (fileRecords l))

@@ -1,9 +1,9 @@
 -- Cutting a file into records, and putting records together.
 -- Assumes nothing.
-use Prim.Native.Nat.{ℕ, zero, suc, _+_, _-_, _*_, _/_, _≤_, _<_}
-use mathlib.Core.Path.{_≡_, refl, ap, _∙_}
+use Prim.Native.Nat.{ℕ, zero, suc, _+_, _-_, _*_, _/_, _%_, _≤_, _<_}
+use mathlib.Core.Path.{_≡_, refl, ap, sym, _∙_}
 use mathlib.Core.Bool.{true}
-use mathlib.Core.List.{List, [], _∷_, _++_}
+use mathlib.Core.List.{List, [], _∷_, _++_, append-assoc, append-nil}
 use native.Mathlib.Omega.{arith}
 use lib.Dec.{ltb}
 use lib.ListN.{length, take, drop, length-append, length-drop, take-append-drop}
@@ -53,6 +53,11 @@ unfolding joined Whole
 joined-length [] w = refl
 joined-length (b ∷ bs) w = rw length-append (omega (arith, w .0, joined-length bs (w .1)))
 
+pub joined-append : (xs ys : List (List ℕ)) → joined (xs ++ ys) ≡ joined xs ++ joined ys
+unfolding joined
+joined-append [] ys = refl
+joined-append (x ∷ xs) ys = ap (λ (l : List ℕ). x ++ l) (joined-append xs ys) ∙ sym (append-assoc x (joined xs) (joined ys))
+
 -- the first of bytes are bytes, and bytes are cut into records of bytes
 pub first-bytes : (n : ℕ) (l : List ℕ) → areBytes l ≡ true → areBytes (take n l) ≡ true
 unfolding areBytes
@@ -78,3 +83,11 @@ records-split (suc n) l h =
     let first = records-app (take 16 l) (take (16 * n) (drop 16 l)) (length-take-le 16 l (omega arith)) in
     records-cons l (omega arith)
     ∙ rw (e, take-add 16 (16 * n) l, ← (drop-drop (16 * n) 16 l), first) (ap (λ (m : List (List ℕ)). take 16 l ∷ m) (records-split n (drop 16 l) k))
+
+-- a record behind whole ones
+pub records-behind : (l b : List ℕ) → length l % 16 ≡ 0 → length b ≡ 16 → fileRecords (l ++ b) ≡ fileRecords l ++ (b ∷ [])
+records-behind l b even long =
+    let n = length l / 16 in
+    let whole : length l ≡ 16 * n = omega arith in
+    let one : fileRecords b ≡ b ∷ [] = rw (append-nil b, records-end [] (omega arith)) at (records-app b [] long) in
+    records-split n (l ++ b) (omega (arith, length-append l b)) ∙ rw (take-at l b (16 * n) whole, drop-at l b (16 * n) whole, one)

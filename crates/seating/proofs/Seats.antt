@@ -18,7 +18,7 @@ use Rattle.counting.proofs.Firsts.{zeros-at}
 use Rattle.seating.specs.declared.Table.{Table}
 use Rattle.seating.specs.declared.Wagers.{Wagers}
 use Rattle.seating.specs.Table.{hasTable}
-use Rattle.seating.specs.Seat.{anteFits, sidesFit, isAbove, seatRefusal, withSeat, noWagers, noWager, wagersFit, seatFits, seatsFit}
+use Rattle.seating.specs.Seat.{anteFits, sidesFit, isLower, isAbove, seatRefusal, withSeat, noWagers, noWager, wagersFit, seatFits, seatsFit}
 use Rattle.records.proofs.Betweens.{between-true, is-between}
 
 -- ---- seven of each
@@ -132,6 +132,14 @@ absent t w k h e p =
     either (noWager w k ≡ true) t w k h e (λ z. z)
     (λ g. absurd (omega (arith, positive (t .smallest) (g .table), g .ante-low)))
 
+-- whether a seat plays or not, no wager is above the largest ante
+pub wagers-most : (t : Table) (w : Wagers) (k : ℕ) → k < 7 → seatsFit t w ≡ true
+    → (getD (w .antes) k 0 ≤ t .largest) × (getD (w .board) k 0 ≤ t .largest) × (getD (w .pocket) k 0 ≤ t .largest) × (getD (w .lo) k 0 ≤ t .largest)
+wagers-most t w k h e =
+    either _ t w k h e
+    (λ z. let n = absent-zero w k z in (omega (arith, n .0), omega (arith, n .1), omega (arith, n .2), omega (arith, n .3)))
+    (λ g. (g .ante-high, g .board, g .pocket, g .lo))
+
 pub seats-need-table : (t : Table) (w : Wagers) → seatsFit t w ≡ true → anyPlays (w .antes) ≡ true → hasTable t ≡ true
 unfolding anyPlays
 seats-need-table t w e p =
@@ -184,20 +192,31 @@ seat-accepted t w b e =
       lo = sides .2;
     }
 
+module _ (t : Table) (w : Wagers) (b : List ℕ) (e : seatRefusal t w b ≡ 0) where
+  pub seat-here : place (byte b 1) < 7
+  seat-here = let f = seat-accepted t w b e in omega arith
+
+  -- from its place on nobody has an ante, since its number is above that of each seat with one
+  pub seat-free : (k : ℕ) → place (byte b 1) ≤ k → k < 7 → plays (w .antes) k ≡ false
+  unfolding isAbove
+  seat-free k h m =
+      let f = seat-accepted t w b e in
+      let l = le-leb (byte b 1) (k + 1) (omega (arith, f .low)) in
+      let n = not-true _ (every-at (isLower (w .antes) (byte b 1)) 7 (f .above) k m) in
+      is-false (plays (w .antes) k) λ q.
+      clash (plays (w .antes) k && leb (byte b 1) (k + 1)) (both (plays (w .antes) k) (leb (byte b 1) (k + 1)) q l) n
+
+  pub seat-put : (l : List ℕ) (v : ℕ) → length l ≡ 7 → getD (set l (place (byte b 1)) v) (place (byte b 1)) 0 ≡ v
+  seat-put l v h = getD-set-same l (place (byte b 1)) v 0 (omega (arith, seat-here))
+
 module _ (t : Table) (w : Wagers) (b : List ℕ) (seven : Seven w) (table : hasTable t ≡ true) (e : seatRefusal t w b ≡ 0) where
-  here : place (byte b 1) < 7
-  here = let f = seat-accepted t w b e in omega arith
-
-  put : (l : List ℕ) (v : ℕ) → length l ≡ 7 → getD (set l (place (byte b 1)) v) (place (byte b 1)) 0 ≡ v
-  put l v h = getD-set-same l (place (byte b 1)) v 0 (omega (arith, here))
-
   at-seat : Wagered t (withSeat w b) (place (byte b 1))
   at-seat =
       let f = seat-accepted t w b e in
-      let a = put (w .antes) (word b 2) (seven .antes) in
-      let d = put (w .board) (word b 4) (seven .board) in
-      let p = put (w .pocket) (word b 6) (seven .pocket) in
-      let l = put (w .lo) (word b 8) (seven .lo) in
+      let a = seat-put t w b e (w .antes) (word b 2) (seven .antes) in
+      let d = seat-put t w b e (w .board) (word b 4) (seven .board) in
+      let p = seat-put t w b e (w .pocket) (word b 6) (seven .pocket) in
+      let l = seat-put t w b e (w .lo) (word b 8) (seven .lo) in
       record { table = table; ante-low = omega arith; ante-high = omega arith; board = omega arith; pocket = omega arith; lo = omega arith }
 
   elsewhere : (k : ℕ) → (k ≡ place (byte b 1) → ⊥) → seatFits t w k ≡ true → seatFits t (withSeat w b) k ≡ true
@@ -211,23 +230,16 @@ module _ (t : Table) (w : Wagers) (b : List ℕ) (seven : Seven w) (table : hasT
         getD-set-other (w .lo) p k (word b 8) 0 n,
       ) f
 
-  -- the seat had no ante, since its number is above that of each seat with one
-  free : plays (w .antes) (place (byte b 1)) ≡ false
-  unfolding isAbove
-  free =
-      let f = seat-accepted t w b e in
-      let p = place (byte b 1) in
-      let l = le-leb (byte b 1) (p + 1) (omega arith) in
-      let n = not-true _ (every-at (λ k. not (plays (w .antes) k && leb (byte b 1) (k + 1))) 7 (f .above) p here) in
-      is-false (plays (w .antes) p) λ q.
-      clash (plays (w .antes) p && leb (byte b 1) (p + 1)) (both (plays (w .antes) p) (leb (byte b 1) (p + 1)) q l) n
+  pub seat-plays : plays (withSeat w b .antes) (place (byte b 1)) ≡ true
+  seat-plays =
+      let g = at-seat in
+      not-zero (getD (withSeat w b .antes) (place (byte b 1)) 0) (omega (arith, positive (t .smallest) table))
 
   pub seat-taken : tally 7 (plays (withSeat w b .antes)) ≡ tally 7 (plays (w .antes)) + 1
   seat-taken =
       let p = place (byte b 1) in
-      let g = at-seat in
-      let s : 0 < getD (withSeat w b .antes) p 0 = omega (arith, positive (t .smallest) table) in
-      tally-one-more 7 p (plays (w .antes)) (plays (withSeat w b .antes)) here free (not-zero (getD (withSeat w b .antes) p 0) s)
+      let h = seat-here t w b e in
+      tally-one-more 7 p (plays (w .antes)) (plays (withSeat w b .antes)) h (seat-free t w b e p (omega arith) h) seat-plays
       λ k n. ap (λ (x : ℕ). not (eqb x 0)) (sym (getD-set-other (w .antes) p k (word b 2) 0 n))
 
   kept : seatsFit t w ≡ true → seatsFit t (withSeat w b) ≡ true

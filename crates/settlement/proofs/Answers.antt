@@ -1,7 +1,7 @@
 -- The answers of the entries and what the lent list then holds, case by case; and what is promised of an answer.
 -- Assumes nothing.
 use Prim.Native.Nat.{ℕ, _≤_}
-use mathlib.Core.Path.{_≡_, refl, ap, subst, _∙_}
+use mathlib.Core.Path.{_≡_, refl, ap, _∙_}
 use mathlib.Core.Bool.{Bool, true, false, not}
 use mathlib.Core.List.{List}
 use native.Mathlib.Omega.{arith}
@@ -14,6 +14,7 @@ use Rattle.round.specs.declared.Round.{Round}
 use Rattle.round.specs.Order.{isFinished}
 use Rattle.led.specs.Held.{isHeld}
 use Rattle.held.specs.Take.{Decides}
+use Rattle.held.proofs.Answers.{decided}
 use Rattle.reading.specs.declared.Reading.{Reading}
 use Rattle.results.specs.Results.{pool, resultsLong, results}
 use Rattle.settlement.specs.declared.Settlement.{Settlement}
@@ -45,10 +46,6 @@ module _ (r : Round) (lent : List ℕ) where
     pub all-paid : length lent ≡ resultsLong → isFinished r ≡ true → (new : List ℕ) → new ≡ results r → Settles (Paid (pool r .full) (pool r .paid)) new
     unfolding settleRefusal settleAnswer settleList
     all-paid e f new q = (simp (h, e, f), simp (h, e, f) q)
-
--- the test in these answers is true of exactly the led rounds
-decided : (r : Round) (t : Bool) → Decides r t → Decides r (isHeld r)
-decided r t d = subst (λ (b : Bool). Decides r b) (d .test) d
 
 module _ (r : Round) (room : ℕ) where
   abbrev answer-by : Bool → Settlement

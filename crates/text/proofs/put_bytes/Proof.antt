@@ -1,8 +1,9 @@
 use Prim.Native.Nat.{_≤_, _+_, _-_}
 use mathlib.Core.Path.{_≡_, refl, sym, _∙_}
 use lib.ListN.{length, drop}
+use Rattle.counting.proofs.Stores.{sets-next, sets-done}
 use Rattle.text.specs.Text.{behind, written}
-use Rattle.text.proofs.Writes.{write-more, write-over, write-past}
+use Rattle.text.proofs.Writes.{write-past}
 use borrow.Author.Needs.{needs}
 use Rattle.text.proofs.put_bytes.Statement.{statement}
 use Rattle.text.proofs.put_bytes.Tie as tie
@@ -41,18 +42,19 @@ loop-less : tie.Need-loop-less Inv-loop μ-loop
 loop-less c = search needs
 
 loop-again : tie.Need-loop-again Inv-loop μ-loop
+unfolding written
 loop-again c =
     let l = c .before .before .before .loop in
-    (search needs, search needs, search needs, search needs, sym (write-more (l .room) (c .before .before .before .before .args .bytes .now) (l .to) (l .from) (c .before .before .loop-test .taken)) ∙ l .inv .4)
+    (search needs, search needs, search needs, search needs, sym (sets-next (l .room) (c .before .before .before .before .args .bytes .now) (l .to) (l .from) (c .before .before .loop-test .taken)) ∙ l .inv .4)
 
 same-length-2 : tie.Need-same-length-2 Inv-loop μ-loop
 same-length-2 c = search needs
 
 returns-2 : tie.Need-returns-2 Inv-loop μ-loop
-unfolding behind
+unfolding behind written
 returns-2 c =
     let l = c .before .loop in
-    (search needs, sym (write-over _ (c .before .before .args .bytes .now) (l .to) _ (c .loop-test .left)) ∙ l .inv .4)
+    (search needs, sym (sets-done _ (c .before .before .args .bytes .now) (l .to) _ (c .loop-test .left)) ∙ l .inv .4)
 
 pub put-bytes-spec : {M : Type 1} → statement M
 put-bytes-spec =

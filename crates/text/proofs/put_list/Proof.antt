@@ -1,15 +1,16 @@
 use Prim.Native.Nat.{_-_}
 use mathlib.Core.Path.{_≡_, refl, _∙_}
-use lib.ListN.{length, drop}
-use Rattle.text.specs.Text.{behind, written, listed}
-use Rattle.text.proofs.Writes.{write-both, behind-both}
-use Rattle.text.proofs.Lists.{write-number, behind-number, write-numbered, behind-numbered}
+use lib.ListN.{length, getD, drop}
+use mathlib.Core.List.{_∷_}
+use Rattle.text.specs.Text.{decimal, listed}
+use Rattle.text.proofs.Writes.{Onward, write-both, behind-both, onward-more, onward-over}
+use Rattle.text.proofs.Lists.{listed-more, listed-over}
 use borrow.Author.Needs.{needs}
 use Rattle.text.proofs.put_list.Statement.{statement}
 use Rattle.text.proofs.put_list.Tie as tie
 
 abbrev Inv-loop : tie.InvT-loop
-Inv-loop room₀ at words numbers next₀ i₀ blank room next i = (length room ≡ length room₀) × (behind room next (listed (drop i numbers)) ≡ behind room₀ next₀ (listed numbers)) × (written room next (listed (drop i numbers)) ≡ written room₀ next₀ (listed numbers))
+Inv-loop room₀ at words numbers next₀ i₀ blank room next i = (length room ≡ length room₀) × Onward room₀ next₀ (listed numbers) room next (listed (drop i numbers))
 
 abbrev μ-loop : tie.MeasureT-loop
 μ-loop room₀ at words numbers next₀ i₀ blank room next i = length numbers - i
@@ -18,7 +19,7 @@ put-bytes-requires : tie.Need-put-bytes-requires Inv-loop μ-loop
 put-bytes-requires c κs = search needs
 
 loop-holds : tie.Need-loop-holds Inv-loop μ-loop
-loop-holds c = (refl, refl, refl)
+loop-holds c = (refl, (refl, refl))
 
 slice-aggregate-put-named : tie.Need-slice-aggregate-put-named Inv-loop μ-loop
 slice-aggregate-put-named c = search needs
@@ -44,7 +45,7 @@ loop-again c =
     let p = c .before .before .put-named .ensures in
     let ns = c .before .before .before .before .before .before .before .before .before .before .before .before .before .before .before .args .numbers .now in
     let h = c .before .before .before .before .before .before .loop-test .taken in
-    (search needs, simp (p .0, p .1) (behind-number (l .room) ns (l .next) (l .i) h ∙ l .inv .1), simp (p .0, p .1) (write-number (l .room) ns (l .next) (l .i) h ∙ l .inv .2))
+    (search needs, onward-more _ _ (listed ns) (l .room) (l .next) _ (l .inv .1) (32 ∷ decimal (getD ns (l .i) 0)) _ (listed-more ns (l .i) h) _ _ p)
 
 same-length : tie.Need-same-length Inv-loop μ-loop
 same-length c = search needs
@@ -56,7 +57,8 @@ returns c =
     let a = c .before .before .before .before .before .before .before .before .before .args in
     let h = c .loop-test .left in
     let ns = a .numbers .now in
-    (behind-numbered (l .room) ns (l .next) (l .i) h ∙ l .inv .1 ∙ simp (p .0, p .1) (behind-both (a .room .now) (a .words .now) (listed ns) (a .at)), write-numbered (l .room) ns (l .next) (l .i) h ∙ l .inv .2 ∙ simp (p .0, p .1) (write-both (a .room .now) (a .words .now) (listed ns) (a .at)))
+    let o = onward-over _ _ (listed ns) (l .room) (l .next) _ (l .inv .1) (listed-over ns (l .i) h) in
+    (o .0 ∙ simp (p .0, p .1) (behind-both (a .room .now) (a .words .now) (listed ns) (a .at)), o .1 ∙ simp (p .0, p .1) (write-both (a .room .now) (a .words .now) (listed ns) (a .at)))
 
 pub put-list-spec : {M : Type 1} → statement M
 put-list-spec =
