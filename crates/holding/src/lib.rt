@@ -9,7 +9,7 @@ ghost use mathlib.Core.Path.{_≡_};
 ghost use Rattle.holding.specs.Deal.{playingBefore, hole, community, five};
 
 // How many seats play before place `k`.
-fn playing_before(antes: [u16; 7], k: u8) -> u8
+pub fn playing_before(antes: [u16; 7], k: u8) -> u8
     ensures { λ r. ⌜ r ≡ playingBefore antes k ⌝ }
 {
     let mut playing = 0;
