@@ -3,7 +3,8 @@
 -- A contract says of an entry's answer, and of the list it was lent, that they are what a definition gives for its input; no entry has a
 -- `requires`. So what is shown here of the definitions holds of the code: `takes` is what `held::take` answers to a record, `settleAnswer` and
 -- `settleList` are `settlement::settle`'s, `fileAnswer` and `fileList` `settle_file`'s, `prefixAnswer` and `prefixList` `settle_prefix`'s,
--- `refusedPart` `reading::refused_part`'s, `shareAnswer` and `shareList` `pool::share`'s.
+-- `refusedPart` `reading::refused_part`'s, `shareAnswer` and `shareList` `pool::share`'s, `writeAnswer` and `writeList` `writing::write_round`'s; `fileTakes`,
+-- `rewriteAnswer` and `rewriteList` are those of `filing`, where a round is held as its file.
 -- Assumes nothing.
 use Prim.Native.Nat.{ℕ, _*_, _-_, _%_, _≤_}
 use mathlib.Core.Path.{_≡_, refl, sym, ap, _∙_}
@@ -15,6 +16,7 @@ use Rattle.counting.proofs.Once.{one-answer}
 use Rattle.records.specs.Bytes.{areBytes}
 use Rattle.names.specs.Top.{isRoyal}
 use Rattle.round.specs.declared.Round.{Round}
+use Rattle.round.specs.declared.Answer.{Answer}
 use Rattle.round.specs.declared.Step.{Step}
 use Rattle.round.specs.Order.{freshRound, isFinished}
 use Rattle.round.specs.Feed.{numberOf}
@@ -30,6 +32,11 @@ use Rattle.results.specs.Results.{pool, resultsLong, results}
 use Rattle.reading.specs.File.{fileRecords, stop, readBy, readFile, heldRecords, readPrefix, refusedPart}
 use Rattle.reading.proofs.Readings.{leads-read, read-by-same, read-number, read-held, read-leads}
 use Rattle.reading.proofs.Prefix.{prefix-held, prefix-number, prefix-ends, prefix-none, prefix-whole}
+use Rattle.writing.specs.declared.WriteAnswer.{WriteAnswer}
+use Rattle.writing.specs.Write.{writeAnswer, writeList, writeNumber}
+use Rattle.writing.proofs.Answers.{write-left}
+use Rattle.filing.specs.Filed.{fileTakes, rewriteAnswer, rewriteList}
+use Rattle.filing.proofs.Answers.{rewrite-left}
 use Rattle.pooling.proofs.Shared.{pool-totals}
 use Rattle.settlement.specs.declared.Settlement.{Settlement}
 use Rattle.settlement.specs.declared.Settlement.the-variants.{Paid}
@@ -61,9 +68,17 @@ demand-1-file l lent = read-left (readFile l) lent
 pub demand-1-prefix : (first : List ℕ) (after : ℕ) (lent : List ℕ) → (fileNumber (prefixAnswer first after (length lent)) ≡ 0 → ⊥) → prefixList first after lent ≡ lent
 demand-1-prefix first after lent = read-left (readPrefix first after) lent
 
--- and of a pool.
+-- of a pool;
 pub demand-1-pool : (won : List ℕ) (most : ℕ) (lent : List ℕ) → (shareNumber (shareAnswer won most (length lent)) ≡ 0 → ⊥) → shareList won most lent ≡ lent
 demand-1-pool won most lent n = share-refused won most lent (λ e. n (answer-number won most (length lent) ∙ e))
+
+-- and a refused writing no byte of the room: of a held round,
+pub demand-1-write : (r : Round) (lent : List ℕ) → (writeNumber (writeAnswer r (length lent)) ≡ 0 → ⊥) → writeList r lent ≡ lent
+demand-1-write = write-left
+
+-- and of a round that is held as its file.
+pub demand-1-rewrite : (l lent : List ℕ) → (writeNumber (rewriteAnswer l (length lent)) ≡ 0 → ⊥) → rewriteList l lent ≡ lent
+demand-1-rewrite = rewrite-left
 
 -- ==== Demand 2. A round is refused or settled exactly as the rules say, as document 01 fixes them: the contracts.
 
@@ -94,6 +109,17 @@ pub demand-2-pool : (won : List ℕ) (most : ℕ) (lent : List ℕ) (a b : Share
     → (a ≡ shareAnswer won most (length lent)) × (x ≡ shareList won most lent)
     → (b ≡ shareAnswer won most (length lent)) × (y ≡ shareList won most lent) → (a ≡ b) × (x ≡ y)
 demand-2-pool won most lent = both-once (shareAnswer won most (length lent)) (shareList won most lent)
+
+pub demand-2-write : (r : Round) (lent : List ℕ) (a b : WriteAnswer) (x y : List ℕ)
+    → (a ≡ writeAnswer r (length lent)) × (x ≡ writeList r lent) → (b ≡ writeAnswer r (length lent)) × (y ≡ writeList r lent) → (a ≡ b) × (x ≡ y)
+demand-2-write r lent = both-once (writeAnswer r (length lent)) (writeList r lent)
+
+pub demand-2-rewrite : (l lent : List ℕ) (a b : WriteAnswer) (x y : List ℕ)
+    → (a ≡ rewriteAnswer l (length lent)) × (x ≡ rewriteList l lent) → (b ≡ rewriteAnswer l (length lent)) × (y ≡ rewriteList l lent) → (a ≡ b) × (x ≡ y)
+demand-2-rewrite l lent = both-once (rewriteAnswer l (length lent)) (rewriteList l lent)
+
+pub demand-2-take-file : (l b : List ℕ) (a c : Answer) → a ≡ fileTakes l b → c ≡ fileTakes l b → a ≡ c
+demand-2-take-file l b = one-answer (fileTakes l b)
 
 -- An accepted settlement: records, each accepted, lead to a finished round. The answer is that round's pool, and the list that round's results.
 pub record Accepted {A : Type 0} (paid : ℕ → ℕ → A) (answer : A) (list : List ℕ) (records : List (List ℕ)) (round : Round) : Type 0 where

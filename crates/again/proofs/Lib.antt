@@ -1,0 +1,4 @@
+pub mod Spelled
+pub mod Grows
+pub mod Streets
+pub mod Laws
