@@ -1,4 +1,4 @@
-/* Ripplehatch: settles a round of Cajun Stud. Link with libripplehatch.a (rt staticlib ripplehatch), on x86-64.
+/* Ripplehatch: takes a round of Cajun Stud record by record, and settles it. Link with libripplehatch.a (rt staticlib ripplehatch), on x86-64.
  *
  * Every function answers every input: there is nothing that a caller has to check first. Three things are C's own to keep. No pointer may be null, neither one to
  * a list nor one to a number; of a list of 0 numbers any other pointer will do. A pointer and the number after it are a list that is really there. Nothing that is
@@ -19,15 +19,21 @@ extern "C" {
 /* How long a results list is: seats 1 to 7, four amounts each, in cents, in the order base, Board, Pocket, Lo Ball. */
 #define RIPPLEHATCH_RESULTS 28
 
+/* How long a record is, in bytes. */
+#define RIPPLEHATCH_RECORD 16
+
+/* How long the longest file of accepted records is, in bytes: no round takes more than 33 records. */
+#define RIPPLEHATCH_LARGEST_FILE 528
+
 /* What Lo Ball calls cards that have no high rank: two of a rank, a straight or a flush. */
 #define RIPPLEHATCH_LO_NOTHING 13
 
-/* What a function answers: 0, or the refusal's number. Where several apply, a file is checked for 1, then 2, then record by record, and within a record the lowest
- * number applies; of cards 18 comes before 11, of a pool 19 before 20. */
+/* What a function answers: 0, or the refusal's number. Where several apply, a file that is settled is checked for 1, then 2, then record by record, and within a
+ * record the lowest number applies; of a held file 17 comes before all others, and 16 before 1; of cards 18 comes before 11, of a pool 19 before 20. */
 enum {
     RIPPLEHATCH_SETTLED = 0,       /* no refusal */
-    RIPPLEHATCH_LIST_LENGTH = 1,   /* the results list isn't 28 long */
-    RIPPLEHATCH_ODD_BYTES = 2,     /* the file's length isn't a multiple of 16 */
+    RIPPLEHATCH_LIST_LENGTH = 1,   /* the results list isn't 28 long, or the room to write into isn't as long as the held file */
+    RIPPLEHATCH_ODD_BYTES = 2,     /* the file's length isn't a multiple of 16, or the record that is handed over isn't 16 bytes */
     RIPPLEHATCH_KIND = 3,          /* a record of this kind can't come here */
     RIPPLEHATCH_NOT_ZERO = 4,      /* a byte that must be zero isn't */
     RIPPLEHATCH_ANTE_LIMIT = 5,    /* an ante limit is out of range */
@@ -41,8 +47,8 @@ enum {
     RIPPLEHATCH_ABSENT = 13,       /* the seat isn't in the round */
     RIPPLEHATCH_FOLDED = 14,       /* the seat has folded */
     RIPPLEHATCH_CHOSEN = 15,       /* the seat has already chosen on this street */
-    RIPPLEHATCH_UNFINISHED = 16,   /* the round isn't finished */
-    RIPPLEHATCH_NOT_HELD = 17,     /* a held round that no records lead to; no file is answered so */
+    RIPPLEHATCH_UNFINISHED = 16,   /* the round isn't finished; of ripplehatch_write, the held file is empty */
+    RIPPLEHATCH_NOT_HELD = 17,     /* the held bytes are no file of accepted records; only ripplehatch_take and ripplehatch_write answer so */
     RIPPLEHATCH_HAND = 18,         /* the hand isn't five cards */
     RIPPLEHATCH_SHARE_LISTS = 19,  /* the lists of wins and shares differ in length, or exceed 7 */
     RIPPLEHATCH_SHARE_LIMIT = 20   /* a win is above 500,000, or the maximum above 75,000 */
@@ -56,6 +62,16 @@ uint8_t ripplehatch_settle_file(
 /* The refused record as a part of the file: answers the byte at which it begins, and *length is how many bytes it has. These are 16 bytes; for refusal
  * 2 the odd bytes at the end; for 16, or no refusal, none, at the end. */
 size_t ripplehatch_refused_part(const uint8_t *file, size_t bytes, size_t *length);
+
+/* Answers one record to a round that is held as the file of it: the accepted records, one after the other. The empty file is the fresh round.
+ * Answers 0 where the record is accepted: *finished is then 1 where the round is finished, 0 where the next record is awaited, and the caller puts the 16 bytes
+ * behind the held ones. Else answers the refusal's number, 17, 2, or 3 to 15, and *finished is left as it was: nothing is put behind, and after any but 17 the
+ * round goes on. */
+uint8_t ripplehatch_take(const uint8_t *held, size_t held_bytes, const uint8_t *record, size_t record_bytes, uint8_t *finished);
+
+/* Writes a held file, of a finished round or not, in the writer's order: the table, the seats, the deck parts, the choices by street and by rising seat. The room is
+ * apart from the held file, and exactly as long. Answers 0, and room holds the file; else answers 17, 16 or 1, and room is left as it was. */
+uint8_t ripplehatch_write(const uint8_t *held, size_t held_bytes, uint8_t *room, size_t room_bytes);
 
 /* Names five cards. Answers 0, and *name is the place of the name in the list of names, from 0, a royal flush, to 10, other. Else answers 18 or 11. */
 uint8_t ripplehatch_name_five(const uint8_t *cards, size_t count, size_t *name);

@@ -1,11 +1,17 @@
-//! The library's functions for Rust: the five that ripplehatch.h declares, on slices and enums.
+//! The library's functions for Rust: the seven that ripplehatch.h declares, on slices and enums.
 //!
-//! A slice goes as its pointer and its length. The slices are there, and no two of what is lent overlap: that is all that the library asks of
-//! a caller, so nothing here can be used wrongly.
+//! A slice goes as its pointer and its length. The slices are there, and nothing that is lent to be written overlaps anything else: that is all
+//! that the library asks of a caller, so nothing here can be used wrongly.
 #![allow(dead_code)]
 
 /// How long a results list is: seats 1 to 7, four amounts each, in cents, in the order base, Board, Pocket, Lo Ball.
 pub const RESULTS: usize = 28;
+
+/// How long a record is, in bytes.
+pub const RECORD: usize = 16;
+
+/// How long the longest file of accepted records is, in bytes: no round takes more than 33 records.
+pub const LARGEST_FILE: usize = 528;
 
 /// What the library tells for a Lo Ball hand that has no high rank.
 const LO_NOTHING: usize = 13;
@@ -21,6 +27,19 @@ extern "C" {
         place: &mut usize,
     ) -> u8;
     fn ripplehatch_refused_part(file: *const u8, bytes: usize, length: &mut usize) -> usize;
+    fn ripplehatch_take(
+        held: *const u8,
+        held_bytes: usize,
+        record: *const u8,
+        record_bytes: usize,
+        finished: &mut u8,
+    ) -> u8;
+    fn ripplehatch_write(
+        held: *const u8,
+        held_bytes: usize,
+        room: *mut u8,
+        room_bytes: usize,
+    ) -> u8;
     fn ripplehatch_name_five(cards: *const u8, count: usize, name: &mut usize) -> u8;
     fn ripplehatch_name_lo(cards: *const u8, count: usize, high: &mut usize) -> u8;
     fn ripplehatch_share(
@@ -75,6 +94,45 @@ pub fn refused_part(file: &[u8]) -> &[u8] {
     let mut length = 0;
     let begins = unsafe { ripplehatch_refused_part(file.as_ptr(), file.len(), &mut length) };
     &file[begins..begins + length]
+}
+
+/// What an accepted record leaves: a round that awaits the next one, or a finished round.
+#[derive(Clone, Copy, Debug, PartialEq, Eq)]
+pub enum Taken {
+    Next,
+    Finished,
+}
+
+/// Answers one record to a round that is held as the file of it: the accepted records, one after the other, none for the fresh round. The caller puts an accepted
+/// record behind the held ones. Or the refusal, 17 where the held bytes are no such file, 2 where the record isn't 16 bytes, or 3 to 15: nothing is put behind,
+/// and after any but 17 the round goes on.
+pub fn take(held: &[u8], record: &[u8]) -> Result<Taken, u8> {
+    let mut finished = 0;
+    let number = unsafe {
+        ripplehatch_take(
+            held.as_ptr(),
+            held.len(),
+            record.as_ptr(),
+            record.len(),
+            &mut finished,
+        )
+    };
+    match (number, finished) {
+        (0, 0) => Ok(Taken::Next),
+        (0, _) => Ok(Taken::Finished),
+        _ => Err(number),
+    }
+}
+
+/// Writes a held file, of a finished round or not, in the writer's order into a room as long: the table, the seats, the deck parts, the choices by street and by
+/// rising seat; or the refusal, 17, 16 for the empty file, or 1 for the room's length, which leaves the room as it was.
+pub fn write(held: &[u8], room: &mut [u8]) -> Result<(), u8> {
+    let number =
+        unsafe { ripplehatch_write(held.as_ptr(), held.len(), room.as_mut_ptr(), room.len()) };
+    match number {
+        0 => Ok(()),
+        _ => Err(number),
+    }
 }
 
 /// The place of the five cards' name in the list of names, 0 for a royal flush to 10 for other; or the refusal, 18 or 11.

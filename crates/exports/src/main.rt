@@ -2,7 +2,10 @@
 //
 // Standard input is the round file of document 01. Printed is a line for each call: the answer, then what is told in what was lent, where 7 stood before. The file
 // is settled whole (`file`), without its last byte (`odd`), without its table (`late`), and into 27 numbers: the number, the pool, the place, the list. Then comes
-// where each refused part begins and its length (`part`); what a royal flush, a straight flush, a repeat and four cards are called (`name`); what 2-3-4-5-7 and
+// where each refused part begins and its length (`part`); what a file that is held answers to a record, and whether the round is then finished (`take`): the empty
+// file to the table, and twelve records to the last one, to the one before it again, and to that one's first 15 bytes; the whole file to one more, and the file
+// without its last byte. Then the writing of a held file, and the room as hexadecimal digits (`write`): the table alone, into 16 bytes
+// and into 15, the empty file, and a seat alone. Then what a royal flush, a straight flush, a repeat and four cards are called (`name`); what 2-3-4-5-7 and
 // 2-3-4-5-6 of mixed suits, a repeat and four cards are for Lo Ball (`lo`); and how the house's own example is shared, into two numbers, and under 75,001
 // (`share`). A refusal leaves each 7 but the place.
 //
@@ -12,6 +15,7 @@
 //     share 20, list 7 7 7
 //
 // stdout beside src/ is worked out from document 01. Every function here is proved safe and ending; what the program prints is tested and not proved.
+use digits::put_digits;
 use pipes::Outcome;
 use pipes::called;
 use pipes::end;
@@ -23,6 +27,9 @@ use ripplehatch::ripplehatch_name_lo;
 use ripplehatch::ripplehatch_refused_part;
 use ripplehatch::ripplehatch_settle_file;
 use ripplehatch::ripplehatch_share;
+use ripplehatch::ripplehatch_take;
+use ripplehatch::ripplehatch_write;
+use text::put_bytes;
 use text::put_line;
 use text::put_list;
 ghost use Prim.Native.Nat.{_≤_};
@@ -70,6 +77,31 @@ fn ask_part(what: &[u8], file: &[u8]) -> bool {
     write_numbers(what, &[begins as u64, long as u64])
 }
 
+fn ask_take(held: &[u8], bytes: &[u8]) -> bool {
+    let mut finished = 7u8;
+    let number = ripplehatch_take(held, bytes, &mut finished);
+    write_numbers(b"take", &[number as u64, finished as u64])
+}
+
+// The answer, and the bytes of the room.
+fn write_room(number: u8, room: &[u8]) -> bool {
+    let mut line = [0u8; LINE];
+    let answered = put_list(&mut line, 0, b"write", &[number as u64]);
+    let told = put_bytes(&mut line, answered, b", room ");
+    let spelled = put_digits(&mut line, told, room);
+    let last = put_bytes(&mut line, spelled, b"\n");
+    print(&NAME, &line, last)
+}
+
+fn ask_write(held: &[u8], room: usize) -> bool
+    requires { ⌜ room ≤ 16 ⌝ }
+{
+    let mut bytes = [7u8; 16];
+    let lent: &mut [u8] = &mut bytes[0..room];
+    let number = ripplehatch_write(held, lent);
+    write_room(number, lent)
+}
+
 fn ask_name(what: &[u8], cards: &[u8]) -> bool {
     let mut name = 7;
     let number = ripplehatch_name_five(cards, &mut name);
@@ -112,6 +144,43 @@ fn ask_parts(file: [u8; WHOLE]) -> bool {
         return false;
     }
     ask_part(b"part", &file[16..208])
+}
+
+fn ask_refused(file: [u8; WHOLE], more: [u8; WHOLE]) -> bool {
+    if !ask_take(&file[0..192], &more[176..192]) {
+        return false;
+    }
+    if !ask_take(&file[0..192], &more[192..207]) {
+        return false;
+    }
+    if !ask_take(&file, &more[192..208]) {
+        return false;
+    }
+    ask_take(&file[0..207], &more[192..208])
+}
+
+// The records are handed from a copy of the file.
+fn ask_held(file: [u8; WHOLE], more: [u8; WHOLE]) -> bool {
+    if !ask_take(&file[0..0], &more[0..16]) {
+        return false;
+    }
+    if !ask_take(&file[0..192], &more[192..208]) {
+        return false;
+    }
+    ask_refused(file, more)
+}
+
+fn ask_written(file: [u8; WHOLE]) -> bool {
+    if !ask_write(&file[0..16], 16) {
+        return false;
+    }
+    if !ask_write(&file[0..16], 15) {
+        return false;
+    }
+    if !ask_write(&file[0..0], 0) {
+        return false;
+    }
+    ask_write(&file[16..32], 16)
 }
 
 fn ask_names() -> bool {
@@ -157,6 +226,12 @@ fn ask_all(file: [u8; WHOLE]) -> Outcome {
         return Outcome::Fault;
     }
     if !ask_parts(file) {
+        return Outcome::Fault;
+    }
+    if !ask_held(file, file) {
+        return Outcome::Fault;
+    }
+    if !ask_written(file) {
         return Outcome::Fault;
     }
     if !ask_names() {

@@ -2,6 +2,8 @@
 //
 // ripplehatch.h declares them. Each answers a refusal's number, or 0, and tells the rest in what the caller lends; what is not told is left as it was,
 // so a refusal changes nothing that was lent but the place. None has a `requires`.
+use filing::rewrite_told;
+use filing::take_told;
 use names::FiveAnswer;
 use names::LoAnswer;
 use names::LoName;
@@ -17,6 +19,7 @@ use settlement::settle_file;
 ghost use mathlib.Core.Path.{_≡_};
 ghost use Prim.Native.Nat.{_*_};
 ghost use lib.ListN.{length};
+ghost use Rattle.filing.specs.Filed.{fileTakeRefusal, fileTakes, finishedTold, rewriteRefusal, rewriteList};
 ghost use Rattle.names.specs.Five.{answerFive, fiveNumber};
 ghost use Rattle.names.specs.Lo.{answerLo, loHigh, loNumber};
 ghost use Rattle.pool.specs.Pool.{shareAnswer, shareList, numberOf};
@@ -92,6 +95,25 @@ pub extern "C" fn ripplehatch_refused_part(file: &[u8], long: &mut usize) -> usi
     *long = refused_part(file).len();
     let reading = read_file(file);
     16 * reading.place
+}
+
+// Answers one record to a round that is held as the file of it. Answers 0 where the record is accepted, and tells whether the round is then finished, 1 or
+// 0; or answers the refusal's number, 17 where the held bytes are no file of accepted records.
+#[no_mangle]
+pub extern "C" fn ripplehatch_take(held: &[u8], bytes: &[u8], finished: &mut u8) -> u8
+    ensures number { λ r. ⌜ r ≡ fileTakeRefusal (now (held .entry)) (now (bytes .entry)) ⌝ }
+    ensures finished { λ r. ⌜ now (finished .exit) ≡ finishedTold (fileTakes (now (held .entry)) (now (bytes .entry))) (now (finished .entry)) ⌝ }
+{
+    take_told(held, bytes, finished)
+}
+
+// Writes a held file in the writer's order into a room as long. Answers 0, or 17, 16 or 1.
+#[no_mangle]
+pub extern "C" fn ripplehatch_write(held: &[u8], room: &mut [u8]) -> u8
+    ensures number { λ r. ⌜ r ≡ rewriteRefusal (now (held .entry)) (length (now (room .entry))) ⌝ }
+    ensures list { λ r. ⌜ now (room .exit) ≡ rewriteList (now (held .entry)) (now (room .entry)) ⌝ }
+{
+    rewrite_told(held, room)
 }
 
 fn hand_number(answer: FiveAnswer) -> u8
