@@ -1,6 +1,8 @@
 //! The printed answers.
 
-use crate::reading::{read, Refusal};
+use crate::held::Step;
+use crate::held_file;
+use crate::reading::{read, Refusal, RECORD};
 use crate::settle::{part_of_answer, settle, settle_round, Answer, Paid};
 
 /// What the settling program prints for a file: "each playing seat's number
@@ -39,7 +41,58 @@ pub fn push_stream_line(out: &mut Vec<u8>, file: &[u8]) {
     out.extend_from_slice(b" part");
     push_numbers(out, &[begin as u64]);
     push_hex(out, part);
+    push_taken(out, file);
+    push_written(out, file);
     out.push(b'\n');
+}
+
+/// Appends `take` and what the file without its last record, or without the
+/// odd bytes at its end, answers to these.
+fn push_taken(out: &mut Vec<u8>, file: &[u8]) {
+    let (held, record) = held_file::split(file);
+    out.extend_from_slice(b" take ");
+    push_step(out, &held_file::take(held, record));
+}
+
+/// Appends `written` and what writing the file as a held one gives: how many
+/// first records stand as they came, then the records that follow them.
+fn push_written(out: &mut Vec<u8>, file: &[u8]) {
+    out.extend_from_slice(b" written");
+    match held_file::file_of(file) {
+        Ok(written) => {
+            let same = same_records(file, &written);
+            push_numbers(out, &[same as u64]);
+            push_records(out, &written[same * RECORD..]);
+        }
+        Err(number) => {
+            out.push(b' ');
+            push_refused(out, number);
+        }
+    }
+}
+
+/// How many first records of two files are the same.
+fn same_records(one: &[u8], other: &[u8]) -> usize {
+    let pairs = one.chunks(RECORD).zip(other.chunks(RECORD));
+    pairs.take_while(|(one, other)| one == other).count()
+}
+
+/// Appends each record with a space before it, the zero bytes at its end left
+/// out.
+pub(crate) fn push_records(out: &mut Vec<u8>, file: &[u8]) {
+    for record in file.chunks(RECORD) {
+        let zeros = record.iter().rev().take_while(|&&byte| byte == 0).count();
+        push_hex(out, &record[..record.len() - zeros]);
+    }
+}
+
+/// Appends `next`, `finished`, or `refused` and the number.
+pub(crate) fn push_step(out: &mut Vec<u8>, step: &Step) {
+    match step {
+        Step::Next(_) => out.extend_from_slice(b"next"),
+        Step::Finished(_) => out.extend_from_slice(b"finished"),
+        Step::Refused(number) => push_refused(out, *number),
+    }
 }
 
 /// Appends `paid`, the 28 amounts, `pool` and the pool.

@@ -3,7 +3,7 @@
 //! each time whether accepted records lead to it.
 
 use crate::cards::DECK;
-use crate::reading::{Round, CARDS_IN_PART, MOST_SEATS, RECORD, STREETS};
+use crate::reading::{self, Refusal, Round, CARDS_IN_PART, MOST_SEATS, RECORD, STREETS};
 use crate::records;
 use crate::settle::{settle_round, Paid};
 
@@ -79,8 +79,14 @@ impl Held {
         bytes
     }
 
+    /// The round that the records of a file lead to, finished or not.
+    pub fn led_to(file: &[u8]) -> Result<Held, Refusal> {
+        Ok(Held::of(&reading::led_to(file)?))
+    }
+
     /// The records that lead to this round if any do, in the order "one table,
-    /// one to seven seats with rising numbers, the four deck parts, choices".
+    /// one to seven seats with rising numbers, the four deck parts, choices",
+    /// the choices "by street and by rising seat".
     ///
     /// Only choices could come in another order, those of one street: "the
     /// order of choices within a street isn't held". Who chooses on a street

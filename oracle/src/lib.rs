@@ -1,12 +1,14 @@
-//! A settler for rounds of Cajun Stud, written from document 01 and its
-//! readings as a plain rule sheet, with a generator of round files: it exists
-//! to be compared with another settler.
+//! A settler for rounds of Cajun Stud and a writer of their files, written from
+//! document 01, request a of document 02 and their readings as a plain rule
+//! sheet, with a generator of round files: it exists to be compared with
+//! another settler.
 
 pub mod answer;
 pub mod cards;
 pub mod generate;
 pub mod handmade;
 pub mod held;
+pub mod held_file;
 pub mod names;
 pub mod paytables;
 pub mod pool;
@@ -16,3 +18,4 @@ pub mod settle;
 pub mod stream;
 pub mod tally;
 pub mod text;
+pub mod writing;

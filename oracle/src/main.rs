@@ -5,12 +5,14 @@ use std::io::{self, BufReader, BufWriter, ErrorKind, Read, Write};
 use std::num::{IntErrorKind, ParseIntError};
 use std::process::ExitCode;
 
-use oracle::{answer, generate, handmade, stream, tally, text};
+use oracle::reading::Refusal;
+use oracle::{answer, generate, handmade, stream, tally, text, writing};
 
 const HELP: &str = "\
 oracle: settles rounds of Cajun Stud, and makes rounds to be settled
 
   oracle settle [FILE]       settle one round file
+  oracle rewrite [FILE]      a round file to the file of its held round
   oracle stream              settle a stream of round files, one line each
   oracle generate N SEED     write a stream of N round files
   oracle tally N SEED        count what comes in those N files
@@ -22,7 +24,8 @@ oracle: settles rounds of Cajun Stud, and makes rounds to be settled
 
 Without FILE, and for stream and hold, standard input is read.
 'oracle COMMAND --help' says more.
-Exit status: 0 done, 1 unreadable input, 2 bad usage.
+Exit status: 0 done, 1 unreadable input or a file refused by rewrite, 2 bad
+usage.
 ";
 
 const SETTLE_HELP: &str = "\
@@ -33,15 +36,30 @@ base, Board, Pocket and Lo Ball in cents), then 'pool F P' in dollars, full and
 as paid; or 'refused N at R' alone.
 ";
 
+const REWRITE_HELP: &str = "\
+oracle rewrite [FILE]
+
+Reads a round file and writes the file of the held round that its records lead
+to, finished or not: table, seats, deck parts, then choices by street and by
+rising seat. A refused file, and the empty one, writes nothing: 'refused N at R'
+goes to standard error, and the exit status is 1.
+";
+
 const STREAM_HELP: &str = "\
 oracle stream
 
 Standard input is a run of round files, each preceded by its length as two
 bytes, low byte first. Prints one line a file:
-  paid A1 ... A28 pool F P part B
-  refused N at R part B HEX
+  paid A1 ... A28 pool F P part B take A written S RECORDS
+  refused N at R part B HEX take A written S RECORDS
 B is the byte at which the refused part begins, HEX the part (nothing follows B
-where it is empty).
+where it is empty). A is what a round held as the file of it answers to a
+record: the record is the last of the file, or the odd bytes at its end, and the
+held file is what stands before it. A is 'next', 'finished' or 'refused N'.
+The whole file is held too, and written: RECORDS are those of the written file
+from record S on, from 0, each in hex without the zero bytes at its end; the S
+before them are the same as those of the file. 'written refused 17' or
+'written refused 16' stands where it isn't written.
 ";
 
 const GENERATE_HELP: &str = "\
@@ -103,16 +121,19 @@ oracle hold
 
 Standard input is a stream as 'oracle handmade' writes it. Prints one line an
 item: what the held round answers to the record, then what settling it is
-answered with a results list of 28.
-  take next settle refused 16
-  take refused 17 settle refused 17
-  take refused 3 settle paid A1 ... A28 pool F P
+answered with a results list of 28, then the records of the file that it is
+written as, each in hex without the zero bytes at its end.
+  take next settle refused 16 write RECORDS
+  take next settle refused 16 write refused 16
+  take refused 17 settle refused 17 write refused 17
+  take refused 3 settle paid A1 ... A28 pool F P write RECORDS
 'take finished' stands where the record finishes the round.
 ";
 
 enum Failure {
     Usage(String),
     Input(String),
+    Refused(Refusal),
     /// Nobody reads what we write any more.
     OutputClosed,
 }
@@ -142,6 +163,10 @@ fn main() -> ExitCode {
             eprintln!("oracle: {wrong}");
             ExitCode::from(1)
         }
+        Err(Failure::Refused(Refusal { number, place })) => {
+            eprintln!("refused {number} at {place}");
+            ExitCode::from(1)
+        }
     }
 }
 
@@ -150,6 +175,7 @@ fn run(words: &[&str]) -> Result<(), Failure> {
         ["--help" | "-h" | "help"] => print(HELP.as_bytes()),
         [command, "--help" | "-h"] => print(help_of(command)?.as_bytes()),
         ["settle", file @ ..] => print(answer::lines(&input(file)?).as_bytes()),
+        ["rewrite", file @ ..] => rewrite(file),
         ["stream"] => answer_stream(),
         ["generate", count, seed] => write_generated(number("N", count)?, number("SEED", seed)?),
         ["tally", count, seed] => {
@@ -171,6 +197,7 @@ fn run(words: &[&str]) -> Result<(), Failure> {
 fn help_of(command: &str) -> Result<&'static str, Failure> {
     match command {
         "settle" => Ok(SETTLE_HELP),
+        "rewrite" => Ok(REWRITE_HELP),
         "stream" => Ok(STREAM_HELP),
         "generate" => Ok(GENERATE_HELP),
         "tally" => Ok(TALLY_HELP),
@@ -211,6 +238,10 @@ fn input(file: &[&str]) -> Result<Vec<u8>, Failure> {
         _ => return Err(Failure::Usage("more than one FILE".to_string())),
     };
     Ok(bytes)
+}
+
+fn rewrite(file: &[&str]) -> Result<(), Failure> {
+    print(&writing::rewritten(&input(file)?).map_err(Failure::Refused)?)
 }
 
 fn answer_stream() -> Result<(), Failure> {

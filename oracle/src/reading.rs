@@ -73,15 +73,22 @@ pub struct Finished {
     pub deck: Vec<u8>,
 }
 
-/// "A file is checked for 1, then 2, then record by record"; 1 doesn't arise
-/// here.
+/// The finished round of a file, or its refusal.
 pub fn read(file: &[u8]) -> Result<Finished, Refusal> {
+    led_to(file)?.finish().ok_or(Refusal {
+        number: 16,
+        place: file.len() / RECORD,
+    })
+}
+
+/// The round in progress that a file leads to, finished or not. "A file is
+/// checked for 1, then 2, then record by record"; 1 doesn't arise here.
+pub(crate) fn led_to(file: &[u8]) -> Result<Round, Refusal> {
     let records = file.chunks_exact(RECORD);
-    let whole = records.len();
     if !records.remainder().is_empty() {
         return Err(Refusal {
             number: 2,
-            place: whole,
+            place: records.len(),
         });
     }
     let mut round = Round::fresh();
@@ -90,10 +97,7 @@ pub fn read(file: &[u8]) -> Result<Finished, Refusal> {
             return Err(Refusal { number, place });
         }
     }
-    round.finish().ok_or(Refusal {
-        number: 16,
-        place: whole,
-    })
+    Ok(round)
 }
 
 impl Round {
@@ -247,7 +251,7 @@ fn repeats(before: &[u8], part: &[u8]) -> bool {
         .any(|&card| std::mem::replace(&mut seen[usize::from(card)], true))
 }
 
-fn refuse(number: u8, fault: bool) -> Result<(), u8> {
+pub(crate) fn refuse(number: u8, fault: bool) -> Result<(), u8> {
     if fault {
         Err(number)
     } else {

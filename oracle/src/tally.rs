@@ -5,9 +5,11 @@ use std::fmt::Write;
 use crate::generate::draft::{FOLDS, POOLS};
 use crate::generate::stacks::STACKS;
 use crate::generate::{Generator, Made};
+use crate::held::{Held, Step};
+use crate::held_file;
 use crate::names::FiveName;
 use crate::pool::maximum;
-use crate::reading::{read, Finished, Seat};
+use crate::reading::{read, Finished, Seat, STREETS};
 use crate::settle::{names_of_seat, settle_round, Paid, SeatNames};
 
 const FIVE_NAMES: [&str; 11] = [
@@ -75,6 +77,30 @@ const WAGERS: [&str; 10] = [
     "raises of 4 to 8 antes in all",
     "raises of 9 antes in all",
 ];
+const WRITTEN: [&str; 9] = [
+    "written",
+    "written in another order than it came",
+    "written unfinished",
+    "written unfinished, in another order than it came",
+    "written unfinished, with a fold",
+    "written with a fold on street one",
+    "written with a fold on street two",
+    "written with a fold on street three",
+    "refused 16",
+];
+const STAGES: [&str; 11] = [
+    "the table",
+    "seats",
+    "one deck part",
+    "two deck parts",
+    "three deck parts",
+    "the whole deck",
+    "on street one",
+    "street one is over",
+    "on street two",
+    "street two is over",
+    "on street three",
+];
 
 /// The counts of one kind of thing.
 pub struct Section {
@@ -128,6 +154,9 @@ pub struct Tally {
     pub board: Section,
     pub pocket: Section,
     pub lo_ball: Section,
+    pub taken: Section,
+    pub written: Section,
+    pub stages: Section,
 }
 
 /// The tally of the first files of a seed, as a readable table.
@@ -149,6 +178,10 @@ impl Tally {
         let refused = (2..=16).map(|number| format!("refused {number}"));
         let answers = std::iter::once("accepted".to_string()).chain(refused);
         let patterns = (1..128).map(|mask: u32| pattern_label(mask));
+        let refused = (2..=15)
+            .chain([17])
+            .map(|number| format!("refused {number}"));
+        let taken = ["next", "finished"].map(String::from).into_iter();
         let way_names = generator.ways.iter().map(|way| &way.name);
         Tally {
             files: 0,
@@ -171,12 +204,21 @@ impl Tally {
             board: Section::of_tables("board names, wager placed", &BOARD_NAMES, 4),
             pocket: Section::of_tables("pocket names, wager placed", &POCKET_NAMES, 3),
             lo_ball: Section::of_tables("Lo Ball names, wager placed", &LO_BALL_NAMES, 2),
+            taken: Section::new(
+                "answers of the held file to the last record",
+                taken.chain(refused),
+            ),
+            written: Section::new("held files", WRITTEN),
+            stages: Section::new("how far unfinished rounds have come", STAGES),
         }
     }
 
-    pub fn sections(&self) -> [&Section; 17] {
+    pub fn sections(&self) -> [&Section; 20] {
         [
             &self.answers,
+            &self.taken,
+            &self.written,
+            &self.stages,
             &self.stacks,
             &self.aims,
             &self.folds,
@@ -209,8 +251,45 @@ impl Tally {
             self.stacks.count(made.draft.stack);
             self.aims.count(made.draft.pool);
         }
+        self.held_file(&made.file);
         if let Ok(round) = found {
             self.round(&round);
+        }
+    }
+
+    fn held_file(&mut self, file: &[u8]) {
+        let (before, record) = held_file::split(file);
+        self.taken.count(match held_file::take(before, record) {
+            Step::Next(_) => 0,
+            Step::Finished(_) => 1,
+            // 16 is no answer to a record: 17 has its row.
+            Step::Refused(number) => usize::from(number.min(16)),
+        });
+        match (Held::led_to(file), held_file::file_of(file)) {
+            (Ok(held), Ok(written)) => self.written(&held, written != file),
+            (_, Err(16)) => self.written.count(8),
+            _ => (),
+        }
+    }
+
+    fn written(&mut self, held: &Held, moved: bool) {
+        let unfinished = held.settle().is_err();
+        let folds = |street: u8| held.folds.contains(&street);
+        let marks = [
+            true,
+            moved,
+            unfinished,
+            unfinished && moved,
+            unfinished && held.folds != [0; 7],
+            folds(1),
+            folds(2),
+            folds(3),
+        ];
+        for (row, _) in marks.iter().enumerate().filter(|(_, mark)| **mark) {
+            self.written.count(row);
+        }
+        if unfinished {
+            self.stages.count(stage(held));
         }
     }
 
@@ -302,7 +381,7 @@ impl Tally {
         let mut text = format!("files {}, bytes {}", self.files, self.bytes);
         let average = self.bytes as f64 / self.files.max(1) as f64;
         let _ = writeln!(text, ", bytes a file {average:.1}");
-        for section in &self.sections()[..16] {
+        for section in &self.sections()[..19] {
             print_section(&mut text, section);
         }
         let _ = writeln!(text, "\n{}", self.ways.title);
@@ -338,6 +417,24 @@ fn pool_level(full: u64, most: u64) -> usize {
         _ if full == most => 2,
         _ => 3,
     }
+}
+
+/// The place in `STAGES` of a round with a table.
+fn stage(held: &Held) -> usize {
+    let playing = || (0..7).filter(|&seat| held.wagers[0][seat] > 0);
+    match usize::from(held.parts) {
+        0 if playing().count() == 0 => return 0,
+        parts @ 0..4 => return 1 + parts,
+        _ => (),
+    }
+    let raised = |seat: usize, street: u8| held.raises[usize::from(street) - 1][seat] > 0;
+    let folded = |seat: usize, street: u8| held.folds[seat] == street;
+    let chose = |&street: &u8| playing().any(|seat| folded(seat, street) || raised(seat, street));
+    let Some(street) = (1..=STREETS).rev().find(chose) else {
+        return 5;
+    };
+    let over = playing().all(|seat| held.folds[seat] > 0 || raised(seat, street));
+    4 + 2 * usize::from(street) + usize::from(over)
 }
 
 /// 0 at the lower end, 1 between, 2 at the upper end.

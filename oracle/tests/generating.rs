@@ -73,6 +73,18 @@ fn each_stacked_deck_comes_often() {
     }
 }
 
+/// The last record is answered with each number, and unfinished rounds come as
+/// far as each stage.
+#[test]
+fn each_answer_of_a_held_file_comes_often() {
+    let tally = Tally::of(5_000, 1);
+    for section in [&tally.taken, &tally.written, &tally.stages] {
+        for (label, count) in &section.rows {
+            assert!(*count >= 20, "{}: {label}: {count}", section.title);
+        }
+    }
+}
+
 #[test]
 fn a_file_depends_on_seed_and_place_alone() {
     let [one, same, other] = [5, 5, 6].map(Generator::new);

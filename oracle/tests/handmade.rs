@@ -9,6 +9,7 @@
 use oracle::handmade::bases::{all, Base};
 use oracle::handmade::{items, items_of, push_line, Item, ITEM};
 use oracle::held::{Held, Step};
+use oracle::writing::file_of;
 
 fn base(name: &str) -> Base {
     let found = all().into_iter().find(|base| base.name == name);
@@ -75,7 +76,7 @@ fn each_base_round_has_come_as_far_as_meant() {
     let counts: Vec<usize> = (all().iter())
         .map(|base| base.held.own_records().len())
         .collect();
-    assert_eq!(counts, [0, 1, 4, 7, 9, 13, 17, 17, 14]);
+    assert_eq!(counts, [0, 1, 4, 6, 7, 8, 9, 13, 17, 20, 17, 14]);
 }
 
 #[test]
@@ -100,8 +101,8 @@ fn each_base_round_takes_its_record_unless_finished() {
 #[test]
 fn the_finished_round_without_a_fold() {
     let paid = "take refused 3 settle paid 4152200 20500 10500 0 888700 0 0 0 \
-                0 0 0 0 0 0 0 0 24000 0 35400 0 0 0 0 0 0 0 0 0 pool 121000 49999\n";
-    assert_eq!(line(&items_of(&base("finished, no fold"))[0]), paid);
+                0 0 0 0 0 0 0 0 24000 0 35400 0 0 0 0 0 0 0 0 0 pool 121000 49999 write ";
+    assert!(line(&items_of(&base("finished, no fold"))[0]).starts_with(paid));
 }
 
 /// The board is 4h 9h Jh, a flush at 4. Seat 3 has aces at 30, seat 5 jack
@@ -109,8 +110,8 @@ fn the_finished_round_without_a_fold() {
 #[test]
 fn the_finished_round_in_which_all_folded() {
     let paid = "take refused 3 settle paid 0 0 0 0 0 0 0 0 0 5000 306900 0 \
-                0 0 0 0 0 0 0 4000 0 0 0 0 0 500 58800 0 pool 0 0\n";
-    assert_eq!(line(&items_of(&base("finished, all folded"))[0]), paid);
+                0 0 0 0 0 0 0 4000 0 0 0 0 0 500 58800 0 pool 0 0 write ";
+    assert!(line(&items_of(&base("finished, all folded"))[0]).starts_with(paid));
 }
 
 /// A fresh round has no other that a single byte leads to: a table has six
@@ -126,6 +127,7 @@ fn every_single_byte_change_of_the_fresh_round_is_17() {
             assert!(!held.is_held(), "{value} at {at}");
             assert_eq!(held.take(&fresh.record), Step::Refused(17));
             assert_eq!(held.settle(), Err(17));
+            assert_eq!(file_of(&held), Err(17));
         }
     }
 }
@@ -249,6 +251,7 @@ fn changes_that_are_17() {
         assert!(!held.is_held(), "{what}");
         assert_eq!(held.take(&base(name).record), Step::Refused(17), "{what}");
         assert_eq!(held.settle(), Err(17), "{what}");
+        assert_eq!(file_of(&held), Err(17), "{what}");
     }
 }
 
@@ -284,12 +287,26 @@ fn how_many_items_are_held() {
         // seat: two for 0 and for 100, three for 1 and for 99.
         ("seats", 1 + 7 + (8 + 2 + 3 + 4) + (7 + 6 + 8)),
         // Seat 6 is no longer absent: its ante 21, 19, 5, 100, six side
-        // wagers. Read are the odd cards to 25, the even ones from 28, and 0.
-        // One above: 13 + 12 of these are unread. One below: 12 + 12. The
-        // lowest unread is 2, counted already for 1 and 3.
+        // wagers. Read are the odd cards to 13 and the even ones from 28 to
+        // 38. None of those one above or one below is among them. The lowest
+        // unread is 0, counted already for 1.
+        (
+            "one deck part",
+            1 + 7 + (6 + 2 + 3 + 4 + 4) + (21 + 6) + (13 + 13 + 12),
+        ),
+        // Read are the odd cards to 25, the even ones from 28, and 0. One
+        // above: 13 + 12 of these are unread. One below: 12 + 12. The lowest
+        // unread is 2, counted already for 1 and 3.
         (
             "two deck parts",
             1 + 7 + (6 + 2 + 3 + 4 + 4) + (21 + 6) + (25 + 24 + 24),
+        ),
+        // Unread are the even cards from 14 to 26 and the odd ones from 41.
+        // One above: 7 + 6 of these are unread. One below: 7 + 5. The lowest
+        // unread is 14, counted already for 13 and 15.
+        (
+            "three deck parts",
+            1 + 7 + (6 + 2 + 3 + 4 + 4) + (21 + 6) + (13 + 12 + 37),
         ),
         // No card, but three raises and a fold for each of four seats.
         ("a whole deck", 1 + 7 + 19 + 27 + 4 * 3 + 4),
@@ -307,6 +324,10 @@ fn how_many_items_are_held() {
         // one; on street two three for seats 1 and 4, two or none for seat 6.
         // Seat 7 has not folded, or 1 or 4 has.
         ("street two", 1 + 11 + 13 + 38 + 4 * 2 + 3 * 3 + 3),
+        // Raises: two others for four seats on street one and for three on
+        // street two; on street three three for seats 1 and 6. Seat 4 has not
+        // folded, or 1 or 6 has.
+        ("street three", 1 + 11 + 13 + 38 + 4 * 2 + 3 * 2 + 2 * 3 + 3),
         // Table 10, 60, 2, 1, 2, 1: 11, 9, 5; 61, 59, 100; 3, 1, 5; 2; 3, 1,
         // 4; 2, 3. Four antes for each seat. Side wagers: two for 0, three for
         // 59, four for 5 and 10. Two other raises on each street, and on
@@ -370,38 +391,40 @@ fn no_item_comes_twice() {
 #[test]
 fn the_stream_and_its_answers_are_short() {
     let items = items();
-    assert!(items.len() * ITEM < 700_000, "{}", items.len());
+    assert!(items.len() * ITEM < 1_000_000, "{}", items.len());
     let answers: usize = items.iter().map(|item| line(item).len()).sum();
-    assert!(answers < 700_000, "{answers}");
+    assert!(answers < 900_000, "{answers}");
+}
+
+/// A line without its amounts and records.
+fn shape(line: &str) -> String {
+    let (answers, written) = line.trim_end().split_once(" write ").unwrap();
+    let answers = answers.split(" paid").next().unwrap();
+    match written.strip_prefix("refused ") {
+        Some(number) => format!("{answers} write refused {number}"),
+        None => format!("{answers} write"),
+    }
 }
 
 /// Every answer comes that a single byte can bring about.
 #[test]
 fn the_answers_that_come() {
-    let mut answers: Vec<String> = (items().iter())
-        .map(|item| {
-            line(item)
-                .split(" paid")
-                .next()
-                .unwrap()
-                .trim_end()
-                .to_string()
-        })
-        .collect();
+    let mut answers: Vec<String> = items().iter().map(|item| shape(&line(item))).collect();
     answers.sort_unstable();
     answers.dedup();
     let expected = [
-        "take finished settle refused 16",
-        "take next settle refused 16",
-        "take refused 11 settle refused 16",
-        "take refused 13 settle refused 16",
-        "take refused 14 settle refused 16",
-        "take refused 15 settle refused 16",
-        "take refused 17 settle refused 17",
-        "take refused 3 settle",
-        "take refused 7 settle refused 16",
-        "take refused 8 settle refused 16",
-        "take refused 9 settle refused 16",
+        "take finished settle refused 16 write",
+        "take next settle refused 16 write",
+        "take next settle refused 16 write refused 16",
+        "take refused 11 settle refused 16 write",
+        "take refused 13 settle refused 16 write",
+        "take refused 14 settle refused 16 write",
+        "take refused 15 settle refused 16 write",
+        "take refused 17 settle refused 17 write refused 17",
+        "take refused 3 settle write",
+        "take refused 7 settle refused 16 write",
+        "take refused 8 settle refused 16 write",
+        "take refused 9 settle refused 16 write",
     ];
     assert_eq!(answers, expected);
 }

@@ -57,18 +57,52 @@ fn settles_one_file() {
 }
 
 #[test]
+fn rewrites_one_file() {
+    let file = round();
+    let mut swapped = file.clone();
+    swapped[7 * 16..9 * 16].rotate_left(16);
+    for (input, written) in [
+        (&file[..], &file[..]),
+        (&swapped, &file),
+        (&file[..48], &file[..48]),
+    ] {
+        let output = oracle(&["rewrite"], input);
+        assert_eq!(output.status.code(), Some(0));
+        assert_eq!(output.stdout, written);
+        assert!(output.stderr.is_empty());
+    }
+    let mut bad = file.clone();
+    bad[16 + 15] = 1;
+    let refused: [(&[u8], &str); 4] = [
+        (&[], "refused 16 at 0\n"),
+        (&file[..47], "refused 2 at 2\n"),
+        (&bad, "refused 4 at 1\n"),
+        (&[&file[..], &file[..16]].concat(), "refused 3 at 13\n"),
+    ];
+    for (input, error) in refused {
+        let output = oracle(&["rewrite"], input);
+        assert_eq!(output.status.code(), Some(1));
+        assert!(output.stdout.is_empty());
+        assert_eq!(String::from_utf8(output.stderr).unwrap(), error);
+    }
+}
+
+#[test]
 fn answers_a_stream() {
     let mut bad = round();
     bad[1] = 4;
     let stream = stream_of(&[&round(), &[], &bad, &[0xab, 0x0c], &round()[..32]]);
     let zeros = " 0".repeat(20);
-    let paid = format!("paid 2183300 20500 10500 0 516600 0 0 0{zeros} pool 600000 24999 part 208");
+    let paid = format!(
+        "paid 2183300 20500 10500 0 516600 0 0 0{zeros} pool 600000 24999 part 208 \
+         take finished written 13"
+    );
     let lines = [
         paid.as_str(),
-        "refused 16 at 0 part 0",
-        "refused 5 at 0 part 0 01046402010101000000000000000000",
-        "refused 2 at 0 part 0 ab0c",
-        "refused 16 at 2 part 32",
+        "refused 16 at 0 part 0 take refused 2 written refused 16",
+        "refused 5 at 0 part 0 01046402010101000000000000000000 take refused 17 written refused 17",
+        "refused 2 at 0 part 0 ab0c take refused 2 written refused 17",
+        "refused 16 at 2 part 32 take next written 2",
     ];
     assert_eq!(printed(&["stream"], &stream), lines.join("\n") + "\n");
     assert_eq!(printed(&["stream"], &[]), "");
@@ -81,7 +115,8 @@ fn a_stream_that_ends_inside_a_file() {
         stream.extend_from_slice(rest);
         let output = oracle(&["stream"], &stream);
         assert_eq!(output.status.code(), Some(1));
-        assert_eq!(output.stdout, b"refused 16 at 0 part 0\n");
+        let line = b"refused 16 at 0 part 0 take refused 2 written refused 16\n";
+        assert_eq!(output.stdout, line);
         assert!(!output.stderr.is_empty());
     }
 }
@@ -111,7 +146,7 @@ fn packs_and_shows() {
 fn helps() {
     let help = printed(&["--help"], &[]);
     for command in [
-        "settle", "stream", "generate", "tally", "pack", "show", "handmade", "hold",
+        "settle", "rewrite", "stream", "generate", "tally", "pack", "show", "handmade", "hold",
     ] {
         assert!(help.contains(&format!("oracle {command}")));
         assert!(printed(&[command, "--help"], &[]).contains(command));
@@ -121,7 +156,7 @@ fn helps() {
 
 #[test]
 fn exit_statuses() {
-    let usages: [&[&str]; 11] = [
+    let usages: [&[&str]; 13] = [
         &[],
         &["deal"],
         &["deal", "--help"],
@@ -129,6 +164,8 @@ fn exit_statuses() {
         &["generate", "x", "1"],
         &["stream", "file"],
         &["settle", "--fast"],
+        &["rewrite", "--sorted"],
+        &["rewrite", "one", "two"],
         &["show", "--stream", "-1"],
         &["pack", "one", "two"],
         &["handmade", "1"],
@@ -138,6 +175,7 @@ fn exit_statuses() {
         assert_eq!(status(words, &[]), Some(2), "{words:?}");
     }
     assert_eq!(status(&["settle", "/nowhere/at/all"], &[]), Some(1));
+    assert_eq!(status(&["rewrite", "/nowhere/at/all"], &[]), Some(1));
     assert_eq!(status(&["pack"], b"chair 1"), Some(1));
     assert_eq!(status(&["pack"], &[255]), Some(1));
     assert_eq!(status(&["show", "--stream", "1"], &[0, 0]), Some(1));
@@ -175,16 +213,17 @@ fn answers_held_rounds() {
     let answers = printed(&["hold"], &stream);
     assert_eq!(stream.len() % 159, 0);
     assert_eq!(answers.lines().count(), stream.len() / 159);
-    let lines = "take next settle refused 16\ntake refused 17 settle refused 17\n";
+    let lines = "take next settle refused 16 write refused 16\n\
+                 take refused 17 settle refused 17 write refused 17\n";
     assert!(
         answers.starts_with(lines),
         "the fresh round, then one changed"
     );
     let mut fresh = [0; 159];
     fresh[143..].copy_from_slice(&round()[..16]);
-    assert_eq!(printed(&["hold"], &fresh), &lines[..28]);
+    assert_eq!(printed(&["hold"], &fresh), &lines[..45]);
     fresh[143] = 2;
-    let line = "take refused 3 settle refused 16\n";
+    let line = "take refused 3 settle refused 16 write refused 16\n";
     assert_eq!(printed(&["hold"], &fresh), line);
     assert_eq!(printed(&["hold"], &[]), "");
 }

@@ -1,19 +1,21 @@
-// Answers held rounds that were made by hand, as no record could: what one record to each is answered, and what settling it is.
+// Answers held rounds that were made by hand, as no record could: what one record to each is answered, what settling it is, and what writing it.
 //
 // Standard input is a run of items of 159 bytes: a round as its 143 bytes, then a record of 16. A round's bytes are the table's six numbers; the antes, Board,
 // Pocket and Lo Ball wagers of seats 1 to 7, two bytes each, low byte first; the 52 cards; how many deck parts were read; the 21 raises, street by street; the
 // seven folds. Printed is a line for each item: `take` with `next`, `finished` or `refused N`, then `settle` with `refused N`, or with `paid`, the 28 amounts in
-// cents, `pool` and the pool in dollars, full and as paid.
+// cents, `pool` and the pool in dollars, full and as paid; then `write` with `refused N`, or with the records of the written file, each as hexadecimal digits
+// without the zero bytes at its end.
 //
 // Example:
 //     head -c 159 /dev/zero | ./run handmade
 // prints
-//     take refused 3 settle refused 16
+//     take refused 3 settle refused 16 write refused 16
 //
-// The items in stdin beside src/ and the lines in stdout come from the settler in oracle/, which makes both again at every test: each byte of nine rounds is
+// The items in stdin beside src/ and the lines in stdout come from the settler in oracle/, which makes both again at every test: each byte of twelve rounds is
 // changed to several others. Every function here is proved safe and ending; what the program prints is tested and not proved.
 use choosing::Play;
 use dealing::Deck;
+use digits::put_records;
 use pipes::Outcome;
 use pipes::called;
 use pipes::end;
@@ -31,15 +33,20 @@ use seating::Wagers;
 use settlement::Settlement;
 use settlement::settle;
 use text::put_bytes;
-use text::put_line;
 use text::put_list;
 use text::put_named;
+use writing::WriteAnswer;
+use writing::file_length;
+use writing::write_round;
 ghost use Prim.Native.Nat.{_≤_};
 
 const NAME: [u8; 8] = *b"handmade";
 
 // The bytes of a round and a record.
 const ITEM: usize = 159;
+
+// The bytes of 33 records.
+const FILE: usize = 528;
 
 // Every loop must end: this one after 2^40 items.
 const MOST_ITEMS: usize = 1099511627776;
@@ -126,29 +133,53 @@ fn put_taken(line: &mut [u8], answer: Answer) -> usize {
 
 fn put_paid(line: &mut [u8], at: usize, amounts: [u64; RESULTS], full: u64, paid: u64) -> usize {
     let listed = put_list(line, at, b" settle paid", &amounts);
-    put_line(line, listed, b" pool", &[full, paid])
+    put_list(line, listed, b" pool", &[full, paid])
 }
 
 fn put_settled(line: &mut [u8], at: usize, answer: Settlement, amounts: [u64; RESULTS]) -> usize {
     match answer {
         Settlement::Paid { full, paid } => put_paid(line, at, amounts, full, paid),
-        Settlement::Refused(number) => put_line(line, at, b" settle refused", &[number as u64]),
+        Settlement::Refused(number) => put_named(line, at, b" settle refused ", number as u64),
     }
 }
 
-fn write_answers(taken: Answer, settled: Settlement, amounts: [u64; RESULTS]) -> bool {
-    let mut line = [0u8; 1024];
-    let begun = put_taken(&mut line, taken);
-    let last = put_settled(&mut line, begun, settled, amounts);
-    print(&NAME, &line, last)
+// The file's length, and of a round that is longer than any file that of the longest.
+fn room_for(round: Round) -> usize
+    ensures { λ r. ⌜ r ≤ 528 ⌝ }
+{
+    let long = file_length(round);
+    if long < FILE { long } else { FILE }
 }
 
+fn put_written(line: &mut [u8], at: usize, round: Round) -> usize {
+    let mut room = [0u8; FILE];
+    let lent: &mut [u8] = &mut room[0..room_for(round)];
+    let answer = write_round(round, lent);
+    put_file(line, at, answer, lent)
+}
+
+fn put_file(line: &mut [u8], at: usize, answer: WriteAnswer, file: &[u8]) -> usize {
+    match answer {
+        WriteAnswer::Written => {
+            let begun = put_bytes(line, at, b" write");
+            put_records(line, begun, file)
+        }
+        WriteAnswer::Refused(number) => put_named(line, at, b" write refused ", number as u64),
+    }
+}
+
+// A line is at most 28 amounts of 20 digits, the pool and 33 records, so it fits its room.
 fn answer_round(round: Round, record: &[u8]) -> bool {
+    let mut line = [0u8; 2048];
     let step = held::take(round, record);
-    let taken = step.answer;
+    let answer = step.answer;
+    let taken = put_taken(&mut line, answer);
     let mut amounts = [0u64; RESULTS];
-    let settled = settle(round, &mut amounts);
-    write_answers(taken, settled, amounts)
+    let settlement = settle(round, &mut amounts);
+    let settled = put_settled(&mut line, taken, settlement, amounts);
+    let written = put_written(&mut line, settled, round);
+    let last = put_bytes(&mut line, written, b"\n");
+    print(&NAME, &line, last)
 }
 
 fn answer_item(item: [u8; ITEM]) -> Turn {

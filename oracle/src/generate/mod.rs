@@ -12,8 +12,11 @@ use ways::{Expected, Way};
 pub struct Generator {
     seed: u64,
     pub ways: Vec<Way>,
+    /// From here on stand the ways of unfinished rounds and of a faulty last
+    /// record.
+    first_held: usize,
     /// From here on stand the ways of several faults and of chance.
-    first_favoured: usize,
+    first_several: usize,
 }
 
 pub struct Made {
@@ -34,10 +37,14 @@ const TRIES: usize = 1_000;
 impl Generator {
     pub fn new(seed: u64) -> Generator {
         let ways = ways::all();
-        let several = ways.iter().position(|way| way.name.starts_with("several"));
+        let first = |name| {
+            let found = ways.iter().position(|way| way.name.starts_with(name));
+            found.unwrap_or(0)
+        };
         Generator {
             seed,
-            first_favoured: several.unwrap_or(0),
+            first_held: first("16"),
+            first_several: first("several"),
             ways,
         }
     }
@@ -64,11 +71,14 @@ impl Generator {
         }
     }
 
-    /// One time in five a favoured way by chance, else each way in its turn.
+    /// Three times in eight a favoured way by chance, else each way in its
+    /// turn.
     fn pick_way(&self, rng: &mut Prng, turn: u64) -> usize {
         let count = self.ways.len();
-        if rng.one_in(5) {
-            return rng.between(self.first_favoured, count - 1);
+        match rng.below(8) {
+            0 | 1 => return rng.between(self.first_held, self.first_several - 1),
+            2 => return rng.between(self.first_several, count - 1),
+            _ => (),
         }
         let count = count as u64;
         ((self.seed % count + turn % count) % count) as usize

@@ -2,6 +2,7 @@
 //! must lead to; those that begin with "any" lead where chance takes them.
 
 use std::ops::Range;
+use std::rc::Rc;
 
 use super::draft::{seat_record, Draft, DraftSeat};
 use super::prng::Prng;
@@ -18,7 +19,7 @@ pub enum Expected {
 use Expected::{Anything, Refusal};
 
 /// Damages the file of a draft; none where this draft does not allow the way.
-type Damage = Box<dyn Fn(&mut Prng, &Draft, &mut Vec<u8>) -> Option<Expected>>;
+type Damage = Rc<dyn Fn(&mut Prng, &Draft, &mut Vec<u8>) -> Option<Expected>>;
 
 pub struct Way {
     pub name: String,
@@ -43,6 +44,7 @@ pub fn all() -> Vec<Way> {
     ways.choices();
     ways.choices_again();
     ways.unfinished();
+    ways.faults_in_the_last_record();
     ways.several_faults();
     ways.faults_in_several_records();
     ways.moved_records();
@@ -62,7 +64,7 @@ impl Ways {
     {
         self.0.push(Way {
             name: name.into(),
-            damage: Box::new(damage),
+            damage: Rc::new(damage),
         });
     }
 
@@ -482,10 +484,38 @@ impl Ways {
                     cut(file, pick_of(rng, street.start + 1..street.end))
                 },
             );
+            self.add(
+                format!("16 cut after a fold on street {name}"),
+                move |rng, draft, file| {
+                    let first = choices(draft).start;
+                    let is_fold = |place: &usize| draft.choices[place - first][1] == 0;
+                    let fold = street(draft, number).find(is_fold)?;
+                    cut(file, pick_of(rng, fold + 1..choices(draft).end))
+                },
+            );
         }
         self.add("16 the last choice missing", |_, draft, file| {
             cut(file, Some(choices(draft).end - 1))
         });
+    }
+
+    /// A fault of each number in one of its ways, and the file ends with the
+    /// refused record: all before it are accepted.
+    fn faults_in_the_last_record(&mut self) {
+        for number in 3..=15 {
+            let ways = self.0.iter();
+            let its = ways.filter(|way| way.name.starts_with(&format!("{number} ")));
+            let damages: Vec<Damage> = its.map(|way| Rc::clone(&way.damage)).collect();
+            let name = format!("{number} in the last record");
+            self.add(name, move |rng, draft, file| {
+                let damage = &damages[rng.below(damages.len())];
+                let expected = damage(rng, draft, file)?;
+                if let Refusal(_, place) = expected {
+                    file.truncate((place + 1) * RECORD);
+                }
+                Some(expected)
+            });
+        }
     }
 
     fn several_faults(&mut self) {

@@ -48,7 +48,7 @@ const UP_TO_THE_DECK: Play = Play {
 };
 
 /// Seats 2 and 5 are absent, seat 4 has an ante alone. On street one seat 3
-/// folds, on street two seat 7.
+/// folds, on street two seat 7, on street three seat 4.
 const IN_PLAY: Play = Play {
     table: [15, 25, 1, 2, 1, 3],
     seats: &[
@@ -70,6 +70,9 @@ const IN_PLAY: Play = Play {
         (6, 3),
         (7, 0),
         (1, 1),
+        (4, 2),
+        (4, 0),
+        (6, 1),
     ],
 };
 
@@ -113,14 +116,17 @@ const ALL_FOLD: Play = Play {
 
 /// The name of each base round, its play, and how many of its records led to
 /// the round.
-const BASES: [(&str, &Play, usize); 9] = [
+const BASES: [(&str, &Play, usize); 12] = [
     ("the fresh round", &UP_TO_THE_DECK, 0),
     ("a table", &UP_TO_THE_DECK, 1),
     ("seats", &UP_TO_THE_DECK, 4),
+    ("one deck part", &UP_TO_THE_DECK, 6),
     ("two deck parts", &UP_TO_THE_DECK, 7),
+    ("three deck parts", &UP_TO_THE_DECK, 8),
     ("a whole deck", &UP_TO_THE_DECK, 9),
     ("street one", &IN_PLAY, 13),
     ("street two", &IN_PLAY, 17),
+    ("street three", &IN_PLAY, 20),
     ("finished, no fold", &NO_FOLD, 17),
     ("finished, all folded", &ALL_FOLD, 14),
 ];

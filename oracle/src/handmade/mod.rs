@@ -7,10 +7,11 @@ pub mod changes;
 
 use std::io::{self, Read, Write};
 
-use crate::answer::{push_paid, push_refused};
-use crate::held::{Held, Step, LENGTH};
+use crate::answer::{push_paid, push_records, push_refused, push_step};
+use crate::held::{Held, LENGTH};
 use crate::reading::RECORD;
 use crate::stream::{ended_inside, read_up_to};
+use crate::writing;
 
 pub const ITEM: usize = LENGTH + RECORD;
 
@@ -75,20 +76,24 @@ pub fn answer_all(from: &mut impl Read, to: &mut impl Write) -> io::Result<()> {
     Ok(())
 }
 
-/// Appends what taking the item's record and what settling its held round is
-/// answered.
+/// Appends what taking the item's record, settling its held round and writing
+/// it is answered.
 pub fn push_line(out: &mut Vec<u8>, item: &Item) {
     let held = Held::from_bytes(&item.held);
     out.extend_from_slice(b"take ");
-    match held.take(&item.record) {
-        Step::Next(_) => out.extend_from_slice(b"next"),
-        Step::Finished(_) => out.extend_from_slice(b"finished"),
-        Step::Refused(number) => push_refused(out, number),
-    }
+    push_step(out, &held.take(&item.record));
     out.extend_from_slice(b" settle ");
     match held.settle() {
         Ok(settled) => push_paid(out, &settled),
         Err(number) => push_refused(out, number),
+    }
+    out.extend_from_slice(b" write");
+    match writing::file_of(&held) {
+        Ok(file) => push_records(out, &file),
+        Err(number) => {
+            out.push(b' ');
+            push_refused(out, number);
+        }
     }
     out.push(b'\n');
 }
