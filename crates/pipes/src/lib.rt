@@ -25,6 +25,13 @@ pub struct Got {
     pub failed: bool,
 }
 
+// The same of a file of which the room holds the first bytes: how many these are, and how many come after them.
+pub struct First {
+    pub bytes: usize,
+    pub after: usize,
+    pub failed: bool,
+}
+
 // How a program was called: soundly or not, and whether with `--status`.
 pub struct Call {
     pub sound: bool,
@@ -167,7 +174,12 @@ pub fn tell(name: &[u8], what: &[u8]) {
     let mut room = [0u8; 128];
     let told = put_told(&mut room, name, what);
     let end = put_bytes(&mut room, told, b"\n");
-    io::write_all(STDERR_FILENO, up_to(&room, end));
+    tell_text(&room, end);
+}
+
+// Tells a text that ends at a place of a room on standard error, as it is.
+pub fn tell_text(room: &[u8], end: usize) {
+    io::write_all(STDERR_FILENO, up_to(room, end));
 }
 
 // Tells, besides, why: errno's text. To be called before any other call that can set errno.
@@ -202,6 +214,34 @@ pub fn read_all(name: &[u8], room: &mut [u8], what: &[u8]) -> Got
     Got {
         bytes: got.bytes,
         failed: failed | (0 < rest.bytes),
+    }
+}
+
+// The bytes beyond the first `n` of a room: none where these don't fill it.
+fn beyond(n: usize, room: usize) -> Got {
+    if n < room {
+        return Got {
+            bytes: 0,
+            failed: false,
+        };
+    }
+    count_rest()
+}
+
+// Reads standard input into the room and counts the bytes that come after those. A read that fails is told.
+pub fn read_first(name: &[u8], room: &mut [u8]) -> First
+    ensures { λ r. ⌜ Counts (r .bytes) (now (room .exit)) ⌝ }
+{
+    let got = read_into(room);
+    let rest = beyond(got.bytes, room.len());
+    let failed = got.failed | rest.failed;
+    if failed {
+        tell_unread(name);
+    }
+    First {
+        bytes: got.bytes,
+        after: rest.bytes,
+        failed,
     }
 }
 

@@ -15,14 +15,11 @@
 //
 // The first 34 records are held and the bytes beyond are counted, which is enough for the answer of the whole file
 // (`prefix-is-file`, crates/demands/proofs/Demands.antt). What is read and printed is tested, not proved.
-use pipes::Got;
 use pipes::Outcome;
 use pipes::called;
-use pipes::count_rest;
 use pipes::end;
 use pipes::print;
-use pipes::read_into;
-use pipes::tell_unread;
+use pipes::read_first;
 use results::RESULTS;
 use results::SEAT_WAGERS;
 use settlement::FileSettlement;
@@ -38,17 +35,6 @@ const NAME: [u8; 6] = *b"settle";
 const HELD: usize = 34;
 
 const HELD_BYTES: usize = 16 * HELD;
-
-// The bytes beyond the first `n`: none where these don't fill their room.
-fn beyond(n: usize) -> Got {
-    if n < HELD_BYTES {
-        return Got {
-            bytes: 0,
-            failed: false,
-        };
-    }
-    count_rest()
-}
 
 // The seat of a seat record, 0 for another record.
 fn seat_of(kind: u8, seat: u8) -> u8
@@ -120,13 +106,11 @@ fn settled(file: [u8; HELD_BYTES], held: usize, more: usize) -> Outcome
 
 fn run() -> Outcome {
     let mut file = [0u8; HELD_BYTES];
-    let got = read_into(&mut file);
-    let rest = beyond(got.bytes);
-    if got.failed | rest.failed {
-        tell_unread(&NAME);
+    let got = read_first(&NAME, &mut file);
+    if got.failed {
         return Outcome::Fault;
     }
-    settled(file, got.bytes, rest.bytes)
+    settled(file, got.bytes, got.after)
 }
 
 fn main() {

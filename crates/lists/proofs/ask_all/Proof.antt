@@ -12,23 +12,11 @@ abbrev μ-loop : tie.MeasureT-loop
 loop-holds : tie.Need-loop-holds Inv-loop μ-loop
 loop-holds c = search needs
 
-long-requires : tie.Need-long-requires Inv-loop μ-loop
-long-requires c κs = search needs
-
-ask-files-requires : tie.Need-ask-files-requires Inv-loop μ-loop
-ask-files-requires c κs = search needs
+ask-turn-requires : tie.Need-ask-turn-requires Inv-loop μ-loop
+ask-turn-requires c κs = search needs
 
 returns : tie.Need-returns Inv-loop μ-loop
 returns c = search needs
-
-long-requires-2 : tie.Need-long-requires-2 Inv-loop μ-loop
-long-requires-2 c κs = search needs
-
-ask-rounds-requires : tie.Need-ask-rounds-requires Inv-loop μ-loop
-ask-rounds-requires c κs = search needs
-
-returns-2 : tie.Need-returns-2 Inv-loop μ-loop
-returns-2 c = search needs
 
 add-k : tie.Need-add-k Inv-loop μ-loop
 add-k c = search needs
@@ -39,23 +27,17 @@ loop-less c = search needs
 loop-again : tie.Need-loop-again Inv-loop μ-loop
 loop-again c = search needs
 
-returns-3 : tie.Need-returns-3 Inv-loop μ-loop
-returns-3 c = search needs
+returns-2 : tie.Need-returns-2 Inv-loop μ-loop
+returns-2 c = search needs
 
 pub ask-all-spec : {M : Type 1} → statement M
 ask-all-spec =
     tie.close
-    (tie.spec
-    Inv-loop
-    μ-loop
+    (tie.spec Inv-loop μ-loop
     loop-holds
-    long-requires
-    ask-files-requires
+    ask-turn-requires
     returns
-    long-requires-2
-    ask-rounds-requires
-    returns-2
     add-k
     loop-less
     loop-again
-    returns-3)
+    returns-2)
