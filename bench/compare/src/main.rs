@@ -15,6 +15,7 @@ use oracle::stream::next_file;
 use std::fs::File;
 use std::io::BufReader;
 use std::process::ExitCode;
+use std::rc::Rc;
 use work::Work;
 
 const USAGE: &str = "usage: compare STREAM PASSES, or compare STREAM proved";
@@ -62,7 +63,12 @@ fn print_row(work: &Work, passes: usize) {
 }
 
 fn print_table(files: Vec<Vec<u8>>, passes: usize) -> Result<(), String> {
-    let mut works = vec![work::settling(files)?];
+    let files = Rc::new(files);
+    let mut works = vec![
+        work::settling(Rc::clone(&files))?,
+        work::taking(Rc::clone(&files))?,
+        work::writing(files)?,
+    ];
     works.extend(naming::namings()?);
     works.push(work::sharing()?);
     println!("| Work | inputs | proved, each | oracle, each | ratio |");

@@ -1,7 +1,9 @@
 //! What is timed: the same inputs for both settlers, and that they answer alike.
 
 use crate::draws::Draws;
-use crate::proved::{self, Answer};
+use crate::proved::{self, Answer, Taken};
+use oracle::held::Step;
+use oracle::held_file;
 use oracle::pool;
 use oracle::settle;
 use std::hint::black_box;
@@ -15,8 +17,10 @@ pub struct Work {
     pub oracle: Box<dyn Fn()>,
 }
 
+pub type Files = Rc<Vec<Vec<u8>>>;
+
 /// Settling every file of a stream.
-pub fn settling(files: Vec<Vec<u8>>) -> Result<Work, String> {
+pub fn settling(files: Files) -> Result<Work, String> {
     for (n, file) in files.iter().enumerate() {
         if proved::settle(file) != theirs(file) {
             return Err(format!("the settlers differ at file {n}"));
@@ -25,7 +29,6 @@ pub fn settling(files: Vec<Vec<u8>>) -> Result<Work, String> {
             return Err(format!("the refused parts differ at file {n}"));
         }
     }
-    let files = Rc::new(files);
     let other = Rc::clone(&files);
     Ok(Work {
         name: "settling a file",
@@ -45,6 +48,62 @@ fn theirs(file: &[u8]) -> Answer {
         },
         settle::Answer::Refused { number, place } => Answer::Refused { number, place },
     }
+}
+
+/// Answering the last record of every file, or the odd bytes at its end, with what stands before it as the held file.
+pub fn taking(files: Files) -> Result<Work, String> {
+    for (n, file) in files.iter().enumerate() {
+        if take(file) != their_take(file) {
+            return Err(format!("the answers to the last record differ at file {n}"));
+        }
+    }
+    let other = Rc::clone(&files);
+    Ok(Work {
+        name: "a record to a held file",
+        calls: files.len(),
+        proved: Box::new(move || each(&files, take)),
+        oracle: Box::new(move || each(&other, their_take)),
+    })
+}
+
+fn take(file: &[u8]) -> Result<Taken, u8> {
+    let (held, record) = held_file::split(file);
+    proved::take(held, record)
+}
+
+fn their_take(file: &[u8]) -> Result<Taken, u8> {
+    let (held, record) = held_file::split(file);
+    match held_file::take(held, record) {
+        Step::Next(_) => Ok(Taken::Next),
+        Step::Finished(_) => Ok(Taken::Finished),
+        Step::Refused(number) => Err(number),
+    }
+}
+
+/// Writing every file as a held one, in the writer's order.
+pub fn writing(files: Files) -> Result<Work, String> {
+    for (n, file) in files.iter().enumerate() {
+        let (mut ours, mut theirs) = (vec![9; file.len()], vec![9; file.len()]);
+        let same = proved::write(file, &mut ours) == held_file::write(file, &mut theirs);
+        if !same || ours != theirs {
+            return Err(format!("the written files differ at file {n}"));
+        }
+    }
+    let other = Rc::clone(&files);
+    Ok(Work {
+        name: "writing a held file",
+        calls: files.len(),
+        proved: Box::new(move || each_room(&files, proved::write)),
+        oracle: Box::new(move || each_room(&other, held_file::write)),
+    })
+}
+
+fn each_room<A>(files: &[Vec<u8>], write: impl Fn(&[u8], &mut [u8]) -> A) {
+    let mut room = vec![0; files.iter().map(Vec::len).max().unwrap_or(0)];
+    for file in files {
+        black_box(write(black_box(file), &mut room[..file.len()]));
+    }
+    black_box(room);
 }
 
 /// The proved settler alone, over every file.
