@@ -41,7 +41,7 @@ is-named-by named refused name n cs refusal e z given same =
 abbrev pub Promised : {Answer : Type 0} → (Answer → ℕ) → (Answer → List ℕ) → ℕ → ℕ → Answer → Answer → Type 0
 Promised number values n value a r = (r ≡ a) × ((number r ≡ n) × (values r ≡ unlessRefused n (value ∷ [])))
 
-promised : {Name Answer : Type 0} (named : Name → Answer) (refused : ℕ → Answer) (number : Answer → ℕ) (values : Answer → List ℕ) (n : ℕ) (name : Name) (value : ℕ)
+pub promised : {Name Answer : Type 0} (named : Name → Answer) (refused : ℕ → Answer) (number : Answer → ℕ) (values : Answer → List ℕ) (n : ℕ) (name : Name) (value : ℕ)
     → number (named name) ≡ 0 → number (refused n) ≡ n → values (named name) ≡ value ∷ [] → values (refused n) ≡ []
     → (r : Answer) → r ≡ answer named refused n name → Promised number values n value (answer named refused n name) r
 unfolding answer

@@ -2,3 +2,4 @@ pub mod Answers
 pub mod Fives
 pub mod Los
 pub mod Orders
+pub mod Places

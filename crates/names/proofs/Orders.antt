@@ -16,14 +16,14 @@ use Rattle.names.specs.Lo.{loBy, nameLo, answerLo}
 
 module _ {xs ys : List ℕ} (other : Reordered xs ys) where
   -- whatever goes by how often ranks and suits occur
-  by-counts : {Name : Type 0} (by : (ℕ → ℕ) → (ℕ → ℕ) → Name) → by (ofRank xs) (ofSuit xs) ≡ by (ofRank ys) (ofSuit ys)
+  pub by-counts : {Name : Type 0} (by : (ℕ → ℕ) → (ℕ → ℕ) → Name) → by (ofRank xs) (ofSuit xs) ≡ by (ofRank ys) (ofSuit ys)
   unfolding ofRank ofSuit
   by-counts by =
       ap₂ by (fun-ext (λ r. reordered-count (λ c. eqb (rank c) r) other)) (fun-ext (λ s. reordered-count (λ c. eqb (suit c) s) other))
 
-  refusal : (n : ℕ) → handRefusal n xs ≡ handRefusal n ys
+  pub refusal-reordered : (n : ℕ) → handRefusal n xs ≡ handRefusal n ys
   unfolding handRefusal
-  refusal n = rw (reordered-length other, reordered-faulty other)
+  refusal-reordered n = rw (reordered-length other, reordered-faulty other)
 
   pub five-reordered : nameFive xs ≡ nameFive ys
   unfolding nameFive
@@ -43,16 +43,16 @@ module _ {xs ys : List ℕ} (other : Reordered xs ys) where
 
   pub answer-five-reordered : answerFive xs ≡ answerFive ys
   unfolding answerFive
-  answer-five-reordered = rw (refusal 5, five-reordered)
+  answer-five-reordered = rw (refusal-reordered 5, five-reordered)
 
   pub answer-board-reordered : answerBoard xs ≡ answerBoard ys
   unfolding answerBoard
-  answer-board-reordered = rw (refusal 3, board-reordered)
+  answer-board-reordered = rw (refusal-reordered 3, board-reordered)
 
   pub answer-pocket-reordered : answerPocket xs ≡ answerPocket ys
   unfolding answerPocket
-  answer-pocket-reordered = rw (refusal 2, pocket-reordered)
+  answer-pocket-reordered = rw (refusal-reordered 2, pocket-reordered)
 
   pub answer-lo-reordered : answerLo xs ≡ answerLo ys
   unfolding answerLo
-  answer-lo-reordered = rw (refusal 5, lo-reordered)
+  answer-lo-reordered = rw (refusal-reordered 5, lo-reordered)

@@ -11,9 +11,11 @@
 // proofs/Orders.antt has the law that the order of the cards plays no part.
 ghost use mathlib.Core.Path.{_≡_};
 ghost use mathlib.Core.List.{[], _∷_};
+ghost use Prim.Native.Nat.{ℕ};
 ghost use Rattle.counting.specs.Choose.{if_then_else_, unlessRefused};
-ghost use Rattle.hands.specs.Hand.{ofRank, ofSuit, handRefusal};
-ghost use Rattle.names.specs.Five.{nameFive, answerFive, fivePlace, fiveNumber, fiveValues};
+ghost use Rattle.hands.specs.Hand.{ofRank, ofSuit, flush, handRefusal};
+ghost use Rattle.words.specs.Word.{Has};
+ghost use Rattle.names.specs.Five.{fiveBy, nameFive, answerFive, fivePlace, fiveNumber, fiveValues};
 ghost use Rattle.names.specs.Board.{nameBoard, answerBoard, boardPlace, boardNumber, boardValues};
 ghost use Rattle.names.specs.Pocket.{aceFace, namePocket, answerPocket, pocketPlace, pocketNumber, pocketValues};
 ghost use Rattle.names.specs.Lo.{isLo, nameLo, answerLo, loHigh, loNumber, loValues};
@@ -141,12 +143,10 @@ fn lower_five(row: bool, three: bool, two_pair: bool, jacks: bool, sixes: bool) 
     FiveName::Other
 }
 
-// Five cards by their word. Where no rank occurs twice only straights and flushes are left to ask for; where one does, there is no straight.
-pub fn five_by_word(a: u8, b: u8, c: u8, d: u8, e: u8) -> FiveName
-    ensures { λ r. ⌜ r ≡ nameFive (a ∷ b ∷ c ∷ d ∷ e ∷ []) ⌝ }
+// Five cards by their word and whether they are of one suit. Where no rank occurs twice only straights and flushes are left to ask for; where one does, there is no straight.
+pub fn five_of_word(word: u64, suited: bool) -> FiveName
+    ensures { λ r. ⌜ ((h t : ℕ → ℕ) → Has 5 word h → suited ≡ flush 5 t → r ≡ fiveBy h t) ⌝ }
 {
-    let word = words::word5(a, b, c, d, e);
-    let suited = words::is_suited5(a, b, c, d, e);
     if words::is_apart(word) {
         let row = words::is_straight5(word);
         let lower = lower_five(row, false, false, false, false);
@@ -171,6 +171,15 @@ pub fn five_by_word(a: u8, b: u8, c: u8, d: u8, e: u8) -> FiveName
         three & (pairs == 1),
         suited,
         lower,
+    )
+}
+
+pub fn five_by_word(a: u8, b: u8, c: u8, d: u8, e: u8) -> FiveName
+    ensures { λ r. ⌜ r ≡ nameFive (a ∷ b ∷ c ∷ d ∷ e ∷ []) ⌝ }
+{
+    five_of_word(
+        words::word5(a, b, c, d, e),
+        words::is_suited5(a, b, c, d, e),
     )
 }
 
@@ -204,6 +213,25 @@ pub fn name_five(cards: &[u8]) -> FiveAnswer
         return FiveAnswer::Refused(refusal);
     }
     FiveAnswer::Name(five_by_word(cards[0], cards[1], cards[2], cards[3], cards[4]))
+}
+
+// A name's place among the names of five cards, from 0 for the highest.
+pub fn five_place(name: FiveName) -> usize
+    ensures { λ r. ⌜ r ≡ fivePlace name ⌝ }
+{
+    match name {
+        FiveName::RoyalFlush => 0,
+        FiveName::StraightFlush => 1,
+        FiveName::FourOfAKind => 2,
+        FiveName::FullHouse => 3,
+        FiveName::Flush => 4,
+        FiveName::Straight => 5,
+        FiveName::ThreeOfAKind => 6,
+        FiveName::TwoPair => 7,
+        FiveName::JacksToAces => 8,
+        FiveName::SixesToTens => 9,
+        FiveName::Other => 10,
+    }
 }
 
 fn upper_board(royal: bool, run: bool, three: bool, row: bool, lower: BoardName) -> BoardName

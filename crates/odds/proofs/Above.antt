@@ -20,7 +20,7 @@ use Rattle.pays.specs.declared.Pay.the-variants.{To, Loss}
 use Rattle.odds.specs.Tables.{baseLines}
 use Rattle.odds.specs.Pays.{payIn, payAt, basePay}
 use Rattle.pays.specs.Amounts.{aboveFifty}
-use Rattle.odds.proofs.Places.{five-below}
+use Rattle.names.proofs.Places.{five-below}
 
 same : (a b : Bool) → Bool·beq a b ≡ true → a ≡ b
 same true true e = refl

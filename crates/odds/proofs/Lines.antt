@@ -11,7 +11,7 @@ use borrow.Author.Tests.{le-leb, lt-leb, eqb-true}
 use Rattle.counting.specs.Count.{everyBelow}
 use Rattle.counting.proofs.Ranges.{every-at}
 use Rattle.pays.specs.declared.Pay.{Pay}
-use Rattle.pays.specs.declared.Pay.the-variants.{To, ThreeToTwo, Push, Loss, NoTable}
+use Rattle.pays.specs.declared.Pay.the-variants.{To, ThreeToTwo, To200000, Push, Loss, NoTable}
 use Rattle.odds.specs.Numbers.{saidBy}
 use Rattle.odds.specs.Pays.{payIn, payAt}
 
@@ -45,6 +45,7 @@ module _ (numbers : List ℕ) (t : ℕ) (a : 1 ≤ t) where
 abbrev pub numberFor : Pay → ℕ
 numberFor (To odds) = odds
 numberFor ThreeToTwo = 65533
+numberFor To200000 = 65532
 numberFor Push = 65534
 numberFor Loss = 65535
 numberFor NoTable = 65535

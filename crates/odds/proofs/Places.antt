@@ -1,35 +1,21 @@
 -- Every name has a line in its table.
 -- Assumes nothing.
-use Prim.Native.Nat.{ℕ, _-_, _<_}
+use Prim.Native.Nat.{ℕ, _+_, _-_, _<_}
 use mathlib.Core.Path.{_≡_, refl}
 use mathlib.Core.Bool.{Bool, true, false, _&&_}
 use native.Mathlib.Omega.{arith}
-use lib.Dec.{leb}
-use borrow.Author.Tests.{leb-true}
+use lib.Dec.{leb, ltb}
+use borrow.Author.Tests.{leb-true, ltb-true}
 use Rattle.counting.specs.Choose.{if_then_else_}
 use Rattle.counting.proofs.Tests.{and-true}
-use Rattle.names.specs.declared.FiveName.{FiveName}
-use Rattle.names.specs.declared.FiveName.the-variants.{RoyalFlush, StraightFlush, FourOfAKind, FullHouse, Flush, Straight, ThreeOfAKind, TwoPair, JacksToAces, SixesToTens, Other}
 use Rattle.names.specs.declared.BoardName.{BoardName}
 use Rattle.names.specs.declared.PocketName.{PocketName}
 use Rattle.names.specs.declared.LoName.{LoName}
 use Rattle.names.specs.Five.{fivePlace}
 use Rattle.names.specs.Board.{boardPlace}
 use Rattle.names.specs.Pocket.{pocketPlace}
-use Rattle.odds.specs.Pays.{loPlace}
-
-pub five-below : (name : FiveName) → fivePlace name < 11
-five-below RoyalFlush = omega arith
-five-below StraightFlush = omega arith
-five-below FourOfAKind = omega arith
-five-below FullHouse = omega arith
-five-below Flush = omega arith
-five-below Straight = omega arith
-five-below ThreeOfAKind = omega arith
-five-below TwoPair = omega arith
-five-below JacksToAces = omega arith
-five-below SixesToTens = omega arith
-five-below Other = omega arith
+use Rattle.allsix.specs.declared.SixName.{SixName}
+use Rattle.odds.specs.Pays.{loPlace, sixLine}
 
 pub board-below : (name : BoardName) → boardPlace name < 7
 board-below BoardName.Royal = omega arith
@@ -57,3 +43,15 @@ line-below rank = go (leb 5 rank && leb rank 10) refl
 pub lo-below : (name : LoName) → loPlace name < 7
 lo-below (LoName.High rank) = line-below rank
 lo-below LoName.Nothing = omega arith
+
+best-below : (place : ℕ) → (if ltb place 7 then place + 2 else 9) < 10
+best-below place = go (ltb place 7) refl
+  where
+    go : (b : Bool) → ltb place 7 ≡ b → (if b then place + 2 else 9) < 10
+    go true e = omega (arith, ltb-true place 7 e)
+    go false e = omega arith
+
+pub six-below : (name : SixName) → sixLine name < 10
+six-below SixName.RoyalOfDiamonds = omega arith
+six-below SixName.Royal = omega arith
+six-below (SixName.Five name) = best-below (fivePlace name)

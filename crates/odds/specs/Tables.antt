@@ -1,9 +1,9 @@
--- The odds, all "to 1", as document 01 and the Appendices A to D of source document 002 print them: a line for each name, from the
+-- The odds, all "to 1", as document 01 and the Appendices A to E of source document 002 print them: a line for each name, from the
 -- top, and in it a pay table's odds at the place of its number.
 -- Assumes nothing.
 use mathlib.Core.List.{List, [], _∷_}
 use Rattle.pays.specs.declared.Pay.{Pay}
-use Rattle.pays.specs.declared.Pay.the-variants.{To, ThreeToTwo, Push, Loss}
+use Rattle.pays.specs.declared.Pay.the-variants.{To, ThreeToTwo, To200000, Push, Loss}
 
 unfoldable pub baseLines : List (List Pay)
 baseLines =
@@ -49,4 +49,18 @@ pocketLines =
     ∷ (To 10 ∷ To 10 ∷ To 10 ∷ [])  -- the same unsuited
     ∷ (To 5 ∷ To 5 ∷ To 4 ∷ [])  -- other pair
     ∷ (Loss ∷ Loss ∷ Loss ∷ [])  -- nothing
+    ∷ []
+
+unfoldable pub sixLines : List (List Pay)
+sixLines =
+    (To 1000 ∷ To 1000 ∷ To 1000 ∷ To 1000 ∷ To200000 ∷ [])  -- six-card royal in diamonds
+    ∷ (To 1000 ∷ To 1000 ∷ To 1000 ∷ To 1000 ∷ To 20000 ∷ [])  -- in another suit
+    ∷ (To 1000 ∷ To 1000 ∷ To 1000 ∷ To 1000 ∷ To 1000 ∷ [])  -- royal flush
+    ∷ (To 200 ∷ To 200 ∷ To 200 ∷ To 200 ∷ To 200 ∷ [])  -- straight flush
+    ∷ (To 50 ∷ To 50 ∷ To 100 ∷ To 100 ∷ To 50 ∷ [])  -- four
+    ∷ (To 25 ∷ To 25 ∷ To 20 ∷ To 20 ∷ To 20 ∷ [])  -- full house
+    ∷ (To 20 ∷ To 15 ∷ To 15 ∷ To 15 ∷ To 15 ∷ [])  -- flush
+    ∷ (To 10 ∷ To 10 ∷ To 9 ∷ To 10 ∷ To 10 ∷ [])  -- straight
+    ∷ (To 5 ∷ To 5 ∷ To 8 ∷ To 7 ∷ To 5 ∷ [])  -- three
+    ∷ (Loss ∷ Loss ∷ Loss ∷ Loss ∷ Loss ∷ [])  -- other
     ∷ []

@@ -9,21 +9,25 @@
 ghost use mathlib.Core.Path.{_≡_};
 ghost use mathlib.Core.Bool.{_&&_};
 ghost use mathlib.Core.List.{map};
-ghost use Prim.Native.Nat.{_-_};
-ghost use lib.Dec.{leb};
+ghost use Prim.Native.Nat.{_+_, _-_};
+ghost use lib.Dec.{leb, ltb};
 ghost use Rattle.counting.specs.Choose.{if_then_else_};
 ghost use Rattle.names.specs.Five.{fivePlace};
 ghost use Rattle.names.specs.Board.{boardPlace};
 ghost use Rattle.names.specs.Pocket.{pocketPlace};
-ghost use Rattle.odds.specs.Pays.{payIn, loPlace, basePay, loPay, boardPay, pocketPay};
+ghost use Rattle.odds.specs.Pays.{payIn, loPlace, sixLine, basePay, loPay, boardPay, pocketPay, sixPay};
 ghost use Rattle.odds.specs.Numbers.{saidBy};
+use allsix::SixName;
 use names::BoardName;
 use names::FiveName;
 use names::LoName;
 use names::PocketName;
+use names::five_place;
 use pays::Pay;
 
 // The tables hold odds to 1 as they are printed, and these numbers for what is printed in words or as a fraction.
+const TO_200000: u16 = 65532;
+
 const THREE_TO_TWO: u16 = 65533;
 
 const PUSH: u16 = 65534;
@@ -72,6 +76,19 @@ const POCKET: [[u16; 3]; 5] = [
     [LOSS, LOSS, LOSS], // nothing
 ];
 
+const SIX: [[u16; 5]; 10] = [
+    [1000, 1000, 1000, 1000, TO_200000], // six-card royal in diamonds
+    [1000, 1000, 1000, 1000, 20000], // in another suit
+    [1000, 1000, 1000, 1000, 1000], // royal flush
+    [200, 200, 200, 200, 200], // straight flush
+    [50, 50, 100, 100, 50], // four
+    [25, 25, 20, 20, 20], // full house
+    [20, 15, 15, 15, 15], // flush
+    [10, 10, 9, 10, 10], // straight
+    [5, 5, 8, 7, 5], // three
+    [LOSS, LOSS, LOSS, LOSS, LOSS], // other
+];
+
 // What a number of a table says.
 fn said(number: u16) -> Pay
     ensures { λ r. ⌜ r ≡ saidBy number ⌝ }
@@ -85,28 +102,13 @@ fn said(number: u16) -> Pay
     if number == THREE_TO_TWO {
         return Pay::ThreeToTwo;
     }
+    if number == TO_200000 {
+        return Pay::To200000;
+    }
     Pay::To(number)
 }
 
 // A name's line in its table, from 0 for the highest.
-pub fn five_place(name: FiveName) -> usize
-    ensures { λ r. ⌜ r ≡ fivePlace name ⌝ }
-{
-    match name {
-        FiveName::RoyalFlush => 0,
-        FiveName::StraightFlush => 1,
-        FiveName::FourOfAKind => 2,
-        FiveName::FullHouse => 3,
-        FiveName::Flush => 4,
-        FiveName::Straight => 5,
-        FiveName::ThreeOfAKind => 6,
-        FiveName::TwoPair => 7,
-        FiveName::JacksToAces => 8,
-        FiveName::SixesToTens => 9,
-        FiveName::Other => 10,
-    }
-}
-
 pub fn board_place(name: BoardName) -> usize
     ensures { λ r. ⌜ r ≡ boardPlace name ⌝ }
 {
@@ -155,6 +157,27 @@ fn lo_line(rank: u8) -> usize
     (rank - 5) as usize
 }
 
+// The six-card royals and the names of five cards to three of a kind have a line each; the last line is for every other name.
+fn best_line(name: FiveName) -> usize
+    ensures { λ r. ⌜ r ≡ (if ltb (fivePlace name) 7 then fivePlace name + 2 else 9) ⌝ }
+{
+    let place = five_place(name);
+    if place < 7 {
+        return place + 2;
+    }
+    9
+}
+
+pub fn six_line(name: SixName) -> usize
+    ensures { λ r. ⌜ r ≡ sixLine name ⌝ }
+{
+    match name {
+        SixName::RoyalOfDiamonds => 0,
+        SixName::Royal => 1,
+        SixName::Five(five) => best_line(five),
+    }
+}
+
 // What pay table `table`, numbered from 1, says in a line.
 fn pay_in(line: &[u16], table: u8) -> Pay
     ensures { λ r. ⌜ r ≡ payIn (map saidBy (now (line .entry))) table ⌝ }
@@ -194,5 +217,12 @@ pub fn pocket_pay(table: u8, name: PocketName) -> Pay
     ensures { λ r. ⌜ r ≡ pocketPay table name ⌝ }
 {
     let line = POCKET[pocket_place(name)];
+    pay_in(&line, table)
+}
+
+pub fn six_pay(table: u8, name: SixName) -> Pay
+    ensures { λ r. ⌜ r ≡ sixPay table name ⌝ }
+{
+    let line = SIX[six_line(name)];
     pay_in(&line, table)
 }

@@ -6,7 +6,7 @@ use mathlib.Core.Path.{_≡_, refl}
 use native.Mathlib.Omega.{arith}
 use native.Mathlib.Nat.{add-mul, mul-le-mul}
 use Rattle.pays.specs.declared.Pay.{Pay}
-use Rattle.pays.specs.declared.Pay.the-variants.{To, ThreeToTwo, Push, Loss, NoTable}
+use Rattle.pays.specs.declared.Pay.the-variants.{To, ThreeToTwo, To200000, Push, Loss, NoTable}
 use Rattle.pays.specs.Amounts.{handedBack}
 
 -- odds of a u16 times a wager of a u32
@@ -32,6 +32,7 @@ push-is-no-loss wager placed = omega arith
 pub nothing-back : (pay : Pay) → handedBack pay 0 ≡ 0
 nothing-back (To odds) = omega arith
 nothing-back ThreeToTwo = refl
+nothing-back To200000 = refl
 nothing-back Push = refl
 nothing-back Loss = refl
 nothing-back NoTable = refl

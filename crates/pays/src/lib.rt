@@ -12,6 +12,8 @@ pub enum Pay {
     To(u16),
     // A win at 3 to 2.
     ThreeToTwo,
+    // A win at 200,000 to 1, which All-Six alone has.
+    To200000,
     Push,
     Loss,
     // The wager has no pay table of this number.
@@ -38,6 +40,7 @@ pub fn handed_back(pay: Pay, wager: u32) -> u64
     match pay {
         Pay::To(odds) => won(odds, wager),
         Pay::ThreeToTwo => 100 * (wager as u64) + 150 * (wager as u64),
+        Pay::To200000 => 100 * (wager as u64) + 20000000 * (wager as u64),
         Pay::Push => 100 * (wager as u64),
         Pay::Loss => 0,
         Pay::NoTable => 0,
@@ -51,6 +54,7 @@ pub fn win_at(pay: Pay, wager: u32) -> u64
     match pay {
         Pay::To(odds) => times(odds, wager),
         Pay::ThreeToTwo => 3 * (wager as u64) / 2,
+        Pay::To200000 => 200000 * (wager as u64),
         Pay::Push => 0,
         Pay::Loss => 0,
         Pay::NoTable => 0,
@@ -63,6 +67,7 @@ pub fn is_above_fifty(pay: Pay) -> bool
     match pay {
         Pay::To(odds) => 50 < odds,
         Pay::ThreeToTwo => false,
+        Pay::To200000 => true,
         Pay::Push => false,
         Pay::Loss => false,
         Pay::NoTable => false,

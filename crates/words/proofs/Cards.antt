@@ -82,6 +82,12 @@ pub five-suited : (a b c d e : ℕ)
 unfolding everyOf
 five-suited a b c d e = sym (one-suit a (b ∷ c ∷ d ∷ e ∷ []) ∙ simp (and-end (eqb (suit e) (suit a))))
 
+pub six-suited : (a b c d e f : ℕ)
+    → (eqb (suit b) (suit a) && (eqb (suit c) (suit a) && (eqb (suit d) (suit a) && (eqb (suit e) (suit a) && eqb (suit f) (suit a)))))
+    ≡ flush 6 (ofSuit (a ∷ b ∷ c ∷ d ∷ e ∷ f ∷ []))
+unfolding everyOf
+six-suited a b c d e f = sym (one-suit a (b ∷ c ∷ d ∷ e ∷ f ∷ []) ∙ simp (and-end (eqb (suit f) (suit a))))
+
 pub three-suited : (a b c : ℕ) → (eqb (suit b) (suit a) && eqb (suit c) (suit a)) ≡ flush 3 (ofSuit (a ∷ b ∷ c ∷ []))
 unfolding everyOf
 three-suited a b c = sym (one-suit a (b ∷ c ∷ []) ∙ simp (and-end (eqb (suit c) (suit a))))

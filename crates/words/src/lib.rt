@@ -185,6 +185,16 @@ pub fn is_suited5(a: u8, b: u8, c: u8, d: u8, e: u8) -> bool
             & ((cards::suit_of(d) == first) & (cards::suit_of(e) == first)))
 }
 
+pub fn is_suited6(a: u8, b: u8, c: u8, d: u8, e: u8, f: u8) -> bool
+    ensures { λ r. ⌜ r ≡ flush 6 (ofSuit (a ∷ b ∷ c ∷ d ∷ e ∷ f ∷ [])) ⌝ }
+{
+    let first = cards::suit_of(a);
+    (cards::suit_of(b) == first)
+        & ((cards::suit_of(c) == first)
+            & ((cards::suit_of(d) == first)
+                & ((cards::suit_of(e) == first) & (cards::suit_of(f) == first))))
+}
+
 pub fn is_suited3(a: u8, b: u8, c: u8) -> bool
     ensures { λ r. ⌜ r ≡ flush 3 (ofSuit (a ∷ b ∷ c ∷ [])) ⌝ }
 {

@@ -1,11 +1,8 @@
-use mathlib.Core.Path.{sym, _∙_}
 use mathlib.Core.List.{[], _∷_}
 use borrow.Author.Needs.{needs}
 use Rattle.hands.specs.Hand.{ofRank, ofSuit}
-use Rattle.words.specs.Word.{Has}
 use Rattle.words.proofs.Cards.{few-cards}
 use Rattle.names.specs.Five.{nameFive}
-use Rattle.names.proofs.Fives.{all-differ, some-alike}
 use Rattle.names.proofs.five_by_word.Statement.{statement}
 use Rattle.names.proofs.five_by_word.Tie as tie
 
@@ -15,79 +12,15 @@ word5-requires c κs = search needs
 is-suited5-requires : tie.Need-is-suited5-requires
 is-suited5-requires c κs = search needs
 
-is-apart-requires : tie.Need-is-apart-requires
-is-apart-requires c κs = search needs
-
-is-straight5-requires : tie.Need-is-straight5-requires
-is-straight5-requires c κs = search needs
-
-lower-five-requires : tie.Need-lower-five-requires
-lower-five-requires c κs = search needs
-
-is-royal5-requires : tie.Need-is-royal5-requires
-is-royal5-requires c κs = search needs
-
-upper-five-requires : tie.Need-upper-five-requires
-upper-five-requires c κs = search needs
+five-of-word-requires : tie.Need-five-of-word-requires
+five-of-word-requires c κs = search needs
 
 returns : tie.Need-returns
 unfolding nameFive
 returns c =
-    let v = c .before .before .before .before .before .before .before .before .args in
+    let v = c .before .before .before .args in
     let cs = v .a ∷ v .b ∷ v .c ∷ v .d ∷ v .e ∷ [] in
-    let word = c .before .before .before .before .before .before .before .word5 in
-    let has : Has 5 (word .result) (ofRank cs) = (word .ensures, few-cards cs) in
-    simp (c .upper-five .ensures, c .before .is-royal5 .ensures (ofRank cs) has, c .before .before .lower-five .ensures, c .before .before .before .is-straight5 .ensures (ofRank cs) has, c .before .before .before .before .before .before .is-suited5 .ensures)
-    (all-differ (ofRank cs) (ofSuit cs) (sym (c .before .before .before .before .before .is-apart .ensures (ofRank cs) has) ∙ c .before .before .before .before .if1 .taken))
-
-has-three-requires : tie.Need-has-three-requires
-has-three-requires c κs = search needs
-
-pairs-in-requires : tie.Need-pairs-in-requires
-pairs-in-requires c κs = search needs
-
-high-pairs-in-requires : tie.Need-high-pairs-in-requires
-high-pairs-in-requires c κs = search needs
-
-middle-pairs-in-requires : tie.Need-middle-pairs-in-requires
-middle-pairs-in-requires c κs = search needs
-
-lower-five-requires-2 : tie.Need-lower-five-requires-2
-lower-five-requires-2 c κs = search needs
-
-has-four-requires : tie.Need-has-four-requires
-has-four-requires c κs = search needs
-
-upper-five-requires-2 : tie.Need-upper-five-requires-2
-upper-five-requires-2 c κs = search needs
-
-returns-2 : tie.Need-returns-2
-unfolding nameFive
-returns-2 c =
-    let v = c .before .before .before .before .before .before .before .before .before .before .before .args in
-    let cs = v .a ∷ v .b ∷ v .c ∷ v .d ∷ v .e ∷ [] in
-    let word = c .before .before .before .before .before .before .before .before .before .before .word5 in
-    let has : Has 5 (word .result) (ofRank cs) = (word .ensures, few-cards cs) in
-    simp (c .upper-five2 .ensures, c .before .has-four .ensures (ofRank cs) has, c .before .before .lower-five2 .ensures, c .before .before .before .middle-pairs-in .ensures (ofRank cs) has, c .before .before .before .before .high-pairs-in .ensures (ofRank cs) has, c .before .before .before .before .before .pairs-in .ensures (ofRank cs) has, c .before .before .before .before .before .before .has-three .ensures (ofRank cs) has, c .before .before .before .before .before .before .before .before .before .is-suited5 .ensures)
-    (some-alike (ofRank cs) (ofSuit cs) (few-cards cs) (sym (c .before .before .before .before .before .before .before .before .is-apart .ensures (ofRank cs) has) ∙ c .before .before .before .before .before .before .before .if1 .left))
+    c .five-of-word .ensures (ofRank cs) (ofSuit cs) (c .before .before .word5 .ensures, few-cards cs) (c .before .is-suited5 .ensures)
 
 pub five-by-word-spec : {M : Type 1} → statement M
-five-by-word-spec =
-    tie.close
-    (tie.spec
-    word5-requires
-    is-suited5-requires
-    is-apart-requires
-    is-straight5-requires
-    lower-five-requires
-    is-royal5-requires
-    upper-five-requires
-    returns
-    has-three-requires
-    pairs-in-requires
-    high-pairs-in-requires
-    middle-pairs-in-requires
-    lower-five-requires-2
-    has-four-requires
-    upper-five-requires-2
-    returns-2)
+five-by-word-spec = tie.close (tie.spec word5-requires is-suited5-requires five-of-word-requires returns)

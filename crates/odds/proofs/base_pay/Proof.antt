@@ -6,7 +6,7 @@ use Rattle.counting.specs.Count.{everyBelow}
 use Rattle.odds.specs.Tables.{baseLines}
 use Rattle.odds.specs.Numbers.{saidBy}
 use Rattle.odds.specs.Pays.{basePay}
-use Rattle.odds.proofs.Places.{five-below}
+use Rattle.names.proofs.Places.{five-below}
 use Rattle.odds.proofs.Lines.{said-at, wide-at}
 use Rattle.odds.proofs.base_pay.Statement.{statement}
 use Rattle.odds.proofs.base_pay.Tie as tie

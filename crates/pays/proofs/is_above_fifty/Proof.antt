@@ -1,6 +1,6 @@
 use mathlib.Core.Path.{ap, sym}
-use borrow.Author.Needs.{needs}
 use Rattle.pays.specs.Amounts.{aboveFifty}
+use borrow.Author.Needs.{needs}
 use Rattle.pays.proofs.is_above_fifty.Statement.{statement}
 use Rattle.pays.proofs.is_above_fifty.Tie as tie
 
@@ -19,6 +19,9 @@ enum-told-3 c = search needs
 enum-told-4 : tie.Need-enum-told-4
 enum-told-4 c = search needs
 
+enum-told-5 : tie.Need-enum-told-5
+enum-told-5 c = search needs
+
 returns : tie.Need-returns
 returns c = sym (ap aboveFifty (c .before .pay .given .1))
 
@@ -34,6 +37,9 @@ returns-4 c = search needs
 returns-5 : tie.Need-returns-5
 returns-5 c = search needs
 
+returns-6 : tie.Need-returns-6
+returns-6 c = search needs
+
 pub is-above-fifty-spec : {M : Type 1} → statement M
 is-above-fifty-spec =
     tie.close
@@ -43,8 +49,10 @@ is-above-fifty-spec =
     enum-told-2
     enum-told-3
     enum-told-4
+    enum-told-5
     returns
     returns-2
     returns-3
     returns-4
-    returns-5)
+    returns-5
+    returns-6)

@@ -1,0 +1,4 @@
+pub mod Choices
+pub mod Answers
+pub mod Best
+pub mod Orders
