@@ -98,6 +98,7 @@ module _ (q : Round) (b : List ℕ) (long : Long q) (fits : Fits q) (sixteen : l
           getD-set-other (w .board) who i (word b 4) 0 n,
           getD-set-other (w .pocket) who i (word b 6) 0 n,
           getD-set-other (w .lo) who i (word b 8) 0 n,
+          getD-set-other (w .six) who i (word b 10) 0 n,
         )
 
     one-seat : seatRecords (withWagers q (withSeat w b)) ≡ seatRecords q ++ (b ∷ [])

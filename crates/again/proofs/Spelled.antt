@@ -17,7 +17,7 @@ use Rattle.seating.specs.declared.Wagers.{Wagers}
 use Rattle.seating.specs.Table.{tableOf, tableRefusal, tableRecord}
 use Rattle.seating.specs.Seat.{seatRefusal, withSeat, seatRecord}
 use Rattle.seating.proofs.Tables.{table-accepted}
-use Rattle.seating.proofs.Seats.{Seven, seat-accepted, seat-put}
+use Rattle.seating.proofs.Seats.{Seven, most-six, seat-accepted, seat-put}
 use Rattle.dealing.specs.declared.Deck.{Deck}
 use Rattle.dealing.specs.Part.{thirteenOf, dealt, partRefusal, withPart, partRecord}
 use Rattle.dealing.proofs.Parts.{part-accepted, part-more, part-thirteen, part-filled}
@@ -31,7 +31,7 @@ module _ (b : List ℕ) (long : length b ≡ 16) where
 
   pub table-spelled : byte b 0 ≡ 1 → tableRefusal b ≡ 0 → tableRecord (tableOf b) ≡ b
   unfolding tableRecord gather firsts kept
-  table-spelled k e = sym (spelled 7 (table-accepted b e .0) ∙ rw k)
+  table-spelled k e = sym (spelled 8 (table-accepted b e .0) ∙ rw k)
 
   pub choice-spelled : (k : ℕ) → byte b 0 ≡ 4 → byte b 1 ≡ k + 1 → zeroFrom 3 b ≡ true → choiceRecord k (byte b 2) ≡ b
   unfolding choiceRecord gather firsts kept
@@ -48,6 +48,7 @@ module _ (b : List ℕ) (long : length b ≡ 16) where
       let d = low 4 (f .board) in
       let p = low 6 (f .pocket) in
       let l = low 8 (f .lo) in
+      let s = low 10 (omega (arith, f .six, most-six t)) in
       let at : place (byte b 1) + 1 ≡ byte b 1 = omega (arith, f .low) in
       rw (
         at,
@@ -55,12 +56,14 @@ module _ (b : List ℕ) (long : length b ≡ 16) where
         seat-put t w b e (w .board) (word b 4) (seven .board),
         seat-put t w b e (w .pocket) (word b 6) (seven .pocket),
         seat-put t w b e (w .lo) (word b 8) (seven .lo),
+        seat-put t w b e (w .six) (word b 10) (seven .six),
         a .1,
         d .1,
         p .1,
         l .1,
+        s .1,
       )
-      (sym (spelled 10 (f .zeros) ∙ rw (k, a .0, d .0, p .0, l .0)))
+      (sym (spelled 12 (f .zeros) ∙ rw (k, a .0, d .0, p .0, l .0, s .0)))
 
 -- ---- a deck part
 

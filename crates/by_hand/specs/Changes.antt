@@ -10,7 +10,7 @@ use Rattle.round.specs.declared.Round.{Round}
 use Rattle.round.specs.Order.{freshRound}
 use Rattle.round.specs.Feed.{withTable, withWagers, withDeck, withPlay}
 
--- The table's six numbers, by place: smallest and largest ante, base, Lo Ball, Board and, from place 5 on, Pocket table.
+-- The table's seven numbers, by place: smallest and largest ante, base, Lo Ball, Board, Pocket and, from place 6 on, All-Six table.
 abbrev pub tableWith : Table → ℕ → ℕ → Table
 tableWith t place n =
     record {
@@ -19,16 +19,18 @@ tableWith t place n =
       base = if eqb place 2 then n else t .base;
       lo = if eqb place 3 then n else t .lo;
       board = if eqb place 4 then n else t .board;
-      pocket = if ltb 4 place then n else t .pocket;
+      pocket = if eqb place 5 then n else t .pocket;
+      six = if ltb 5 place then n else t .six;
     }
 
--- The lists of wagers, by number: antes, Board, Pocket and, from number 3 on, Lo Ball.
+-- The lists of wagers, by number: antes, Board, Pocket, Lo Ball and, from number 4 on, All-Six.
 unfoldable pub wagersWith : Wagers → ℕ → ℕ → ℕ → Wagers
 wagersWith w list place dollars =
-    if eqb list 0 then record { antes = set (w .antes) place dollars; board = w .board; pocket = w .pocket; lo = w .lo }
-    else if eqb list 1 then record { antes = w .antes; board = set (w .board) place dollars; pocket = w .pocket; lo = w .lo }
-    else if eqb list 2 then record { antes = w .antes; board = w .board; pocket = set (w .pocket) place dollars; lo = w .lo }
-    else record { antes = w .antes; board = w .board; pocket = w .pocket; lo = set (w .lo) place dollars }
+    if eqb list 0 then record { antes = set (w .antes) place dollars; board = w .board; pocket = w .pocket; lo = w .lo; six = w .six }
+    else if eqb list 1 then record { antes = w .antes; board = set (w .board) place dollars; pocket = w .pocket; lo = w .lo; six = w .six }
+    else if eqb list 2 then record { antes = w .antes; board = w .board; pocket = set (w .pocket) place dollars; lo = w .lo; six = w .six }
+    else if eqb list 3 then record { antes = w .antes; board = w .board; pocket = w .pocket; lo = set (w .lo) place dollars; six = w .six }
+    else record { antes = w .antes; board = w .board; pocket = w .pocket; lo = w .lo; six = set (w .six) place dollars }
 
 -- The round with another number in its table.
 abbrev pub withNumber : Round → ℕ → ℕ → Round

@@ -29,14 +29,15 @@ fn with_number(round: Round, place: u8, number: u8) -> Round
         base: chosen(place == 2, number, round.table.base),
         lo: chosen(place == 3, number, round.table.lo),
         board: chosen(place == 4, number, round.table.board),
-        pocket: chosen(4 < place, number, round.table.pocket),
+        pocket: chosen(place == 5, number, round.table.pocket),
+        six: chosen(5 < place, number, round.table.six),
     };
     let mut next = round;
     next.table = table;
     next
 }
 
-// The wagers with `dollars` at a place of the antes (list 0), the Board (1), the Pocket (2) or the Lo Ball wagers.
+// The wagers with `dollars` at a place of the antes (list 0), the Board (1), the Pocket (2), the Lo Ball (3) or the All-Six wagers.
 fn wagers_with(wagers: Wagers, list: u8, place: u8, dollars: u16) -> Wagers
     ensures { λ r. ⌜ r ≡ wagersWith wagers list place dollars ⌝ }
 {
@@ -44,6 +45,7 @@ fn wagers_with(wagers: Wagers, list: u8, place: u8, dollars: u16) -> Wagers
     let board = wagers.board;
     let pocket = wagers.pocket;
     let lo = wagers.lo;
+    let six = wagers.six;
     let at = place as usize;
     let mut next = wagers;
     if list == 0 {
@@ -61,8 +63,13 @@ fn wagers_with(wagers: Wagers, list: u8, place: u8, dollars: u16) -> Wagers
         next.pocket = more;
         return next;
     }
-    let more = put7(lo, at, dollars);
-    next.lo = more;
+    if list == 3 {
+        let more = put7(lo, at, dollars);
+        next.lo = more;
+        return next;
+    }
+    let more = put7(six, at, dollars);
+    next.six = more;
     next
 }
 

@@ -2,8 +2,8 @@
 //
 // A line is columns of four characters, each a blank and a number. Where the first character is a blank, the numbers are the bytes of a record, with
 // zeros up to 16; where it is '!' they are all of them, at most 21. 'fresh' begins a new round. The other letters change the held round by hand, as no
-// record can: 't P V' puts V at place P of the table's six numbers, 'w L P V' at place P of the antes (L 0), Board (1), Pocket (2) or Lo Ball (3)
-// wagers, 'c P V' at place P of the cards, 'p V' makes V the number of parts, 'r P V' puts V at place P of the raises, 'h P V' of the folds. Any other
+// record can: 't P V' puts V at place P of the table's seven numbers, 'w L P V' at place P of the antes (L 0), Board (1), Pocket (2), Lo Ball (3) or
+// All-Six (4) wagers, 'c P V' at place P of the cards, 'p V' makes V the number of parts, 'r P V' puts V at place P of the raises, 'h P V' of the folds. Any other
 // line is only printed. More than 65,536 bytes are not read.
 //
 // Example:

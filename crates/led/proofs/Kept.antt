@@ -69,7 +69,7 @@ now-opened r e = simp e
 
 pub fresh-long : Long freshRound
 fresh-long =
-    record { wagers = record { antes = refl; board = refl; pocket = refl; lo = refl }; cards = refl; play = record { raises = refl; folds = refl } }
+    record { wagers = record { antes = refl; board = refl; pocket = refl; lo = refl; six = refl }; cards = refl; play = record { raises = refl; folds = refl } }
 
 pub fresh-fits : Fits freshRound
 fresh-fits =

@@ -1,6 +1,6 @@
 // The round in progress, held as one value with its cards and wagers inside, which hands back its successor at each record.
 //
-// A `Round` is 143 bytes of numbers: the table's 6, the wagers' 4 × 7 × 2, the deck's 52 and 1, the play's 21 and 7. Parts not yet
+// A `Round` is 158 bytes of numbers: the table's 7, the wagers' 5 × 7 × 2, the deck's 52 and 1, the play's 21 and 7. Parts not yet
 // filled are zero. It is passed by value: taking a record copies it a few times, and does no work that grows with anything but the record.
 // The methods here answer for any round whatever; whether accepted records lead to it is for `held` to ask.
 use choosing::Play;
@@ -49,12 +49,14 @@ impl Round {
                 lo: 0,
                 board: 0,
                 pocket: 0,
+                six: 0,
             },
             wagers: Wagers {
                 antes: none,
                 board: none,
                 pocket: none,
                 lo: none,
+                six: none,
             },
             deck: Deck {
                 cards: [0u8; 52],

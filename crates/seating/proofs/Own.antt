@@ -20,27 +20,27 @@ use Rattle.seating.specs.Table.{tableFits}
 use Rattle.seating.specs.Seat.{anteFits, sidesFit, isAbove, seatRefusal, withSeat, noWagers, seatsFit, seatRecord}
 use Rattle.records.proofs.Betweens.{is-between}
 use Rattle.seating.proofs.Tables.{table-high}
-use Rattle.seating.proofs.Seats.{Seven, wagered, absent, absent-zero, sides-fit}
+use Rattle.seating.proofs.Seats.{Seven, wagered, absent, absent-zero, sides-fit, most-six}
 
 -- the wagers of the first n places, zeros from there
 unfoldable pub firstSeats : ℕ → Wagers → Wagers
-firstSeats n w = record { antes = firsts n (w .antes); board = firsts n (w .board); pocket = firsts n (w .pocket); lo = firsts n (w .lo) }
+firstSeats n w = record { antes = firsts n (w .antes); board = firsts n (w .board); pocket = firsts n (w .pocket); lo = firsts n (w .lo); six = firsts n (w .six) }
 
-same-wagers : {a b p l c d q m : List ℕ} → a ≡ c → b ≡ d → p ≡ q → l ≡ m
-    → _≡_ {A = Wagers} (record { antes = a; board = b; pocket = p; lo = l }) (record { antes = c; board = d; pocket = q; lo = m })
-same-wagers e f g h i = record { antes = e i; board = f i; pocket = g i; lo = h i }
+same-wagers : {a b p l s c d q m u : List ℕ} → a ≡ c → b ≡ d → p ≡ q → l ≡ m → s ≡ u
+    → _≡_ {A = Wagers} (record { antes = a; board = b; pocket = p; lo = l; six = s }) (record { antes = c; board = d; pocket = q; lo = m; six = u })
+same-wagers e f g h j i = record { antes = e i; board = f i; pocket = g i; lo = h i; six = j i }
 
 pub seats-none : (w : Wagers) → Seven w → firstSeats 0 w ≡ noWagers
 unfolding firstSeats
 seats-none w s =
     same-wagers (firsts-none 7 (w .antes) (s .antes)) (firsts-none 7 (w .board) (s .board)) (firsts-none 7 (w .pocket) (s .pocket))
-    (firsts-none 7 (w .lo) (s .lo))
+    (firsts-none 7 (w .lo) (s .lo)) (firsts-none 7 (w .six) (s .six))
 
 pub seats-all : (w : Wagers) → Seven w → firstSeats 7 w ≡ w
 unfolding firstSeats
 seats-all w s =
     same-wagers (firsts-all 7 (w .antes) (s .antes)) (firsts-all 7 (w .board) (s .board)) (firsts-all 7 (w .pocket) (s .pocket))
-    (firsts-all 7 (w .lo) (s .lo))
+    (firsts-all 7 (w .lo) (s .lo)) (firsts-all 7 (w .six) (s .six))
 
 -- a place without a wager changes nothing
 pub own-absent : (t : Table) (w : Wagers) (n : ℕ) → n < 7 → seatsFit t w ≡ true → plays (w .antes) n ≡ false
@@ -49,6 +49,7 @@ unfolding firstSeats
 own-absent t w n h e p =
     let z = absent-zero w n (absent t w n h e p) in
     same-wagers (firsts-skip n (w .antes) (z .0)) (firsts-skip n (w .board) (z .1)) (firsts-skip n (w .pocket) (z .2)) (firsts-skip n (w .lo) (z .3))
+    (firsts-skip n (w .six) (z .4))
 
 -- ---- the record of a seat, among the seats before it
 
@@ -74,9 +75,9 @@ own-seat t w n h e p =
     let within = is-between 1 7 (n + 1) (omega arith) (omega arith) in
     let number = both (between 1 7 (n + 1)) (isAbove (firsts n (w .antes)) (n + 1)) within (own-above (w .antes) n) in
     let ante = is-between (t .smallest) (t .largest) (word b 2) (omega arith) (omega arith) in
-    let sides = sides-fit t (word b 4) (word b 6) (word b 8) (omega arith) (omega arith) (omega arith) in
+    let sides = sides-fit t (word b 4) (word b 6) (word b 8) (word b 10) (omega arith) (omega arith) (omega arith) (omega arith) in
     pass (between 1 7 (n + 1) && isAbove (firsts n (w .antes)) (n + 1)) _ _ number
-    (pass (anteFits t (word b 2)) _ _ ante (pass (sidesFit t (word b 4) (word b 6) (word b 8)) _ _ sides refl))
+    (pass (anteFits t (word b 2)) _ _ ante (pass (sidesFit t (word b 4) (word b 6) (word b 8) (word b 10)) _ _ sides refl))
 
 put : (l : List ℕ) (n : ℕ) → set (firsts n l) (place (n + 1)) (getD l n 0 + 256 * 0) ≡ firsts (n + 1) l
 put l n =
@@ -85,7 +86,7 @@ put l n =
 
 pub own-seat-next : (w : Wagers) (n : ℕ) → n < 7 → withSeat (firstSeats n w) (seatRecord w n) ≡ firstSeats (n + 1) w
 unfolding seatRecord firstSeats
-own-seat-next w n h = same-wagers (put (w .antes) n) (put (w .board) n) (put (w .pocket) n) (put (w .lo) n)
+own-seat-next w n h = same-wagers (put (w .antes) n) (put (w .board) n) (put (w .pocket) n) (put (w .lo) n) (put (w .six) n)
 
 pub own-seat-bytes : (t : Table) (w : Wagers) (n : ℕ) → n < 7 → tableFits t ≡ true → seatsFit t w ≡ true → plays (w .antes) n ≡ true
     → areBytes (seatRecord w n) ≡ true
@@ -99,4 +100,5 @@ own-seat-bytes t w n h f e p =
       lt-ltb (getD (w .board) n 0) 256 (omega arith),
       lt-ltb (getD (w .pocket) n 0) 256 (omega arith),
       lt-ltb (getD (w .lo) n 0) 256 (omega arith),
+      lt-ltb (getD (w .six) n 0) 256 (omega (arith, most-six t)),
     )

@@ -9,6 +9,7 @@ use lib.Dec.{eqb, leb}
 use lib.ListN.{getD, set, length, length-set}
 use lib.Seq.{getD-set-same, getD-set-other}
 use borrow.Author.Tests.{eqb-true, eqb-false, leb-true, le-leb, not-true, not-false}
+use Rattle.counting.specs.Choose.{if_then_else_}
 use Rattle.counting.specs.Count.{tally}
 use Rattle.records.specs.Bytes.{byte, word, zeroFrom, between}
 use Rattle.records.specs.Seats.{place, plays, anyPlays}
@@ -18,7 +19,7 @@ use Rattle.counting.proofs.Firsts.{zeros-at}
 use Rattle.seating.specs.declared.Table.{Table}
 use Rattle.seating.specs.declared.Wagers.{Wagers}
 use Rattle.seating.specs.Table.{hasTable}
-use Rattle.seating.specs.Seat.{anteFits, sidesFit, isLower, isAbove, seatRefusal, withSeat, noWagers, noWager, wagersFit, seatFits, seatsFit}
+use Rattle.seating.specs.Seat.{anteFits, mostSix, sidesFit, isLower, isAbove, seatRefusal, withSeat, noWagers, noWager, wagersFit, seatFits, seatsFit}
 use Rattle.records.proofs.Betweens.{between-true, is-between}
 
 -- ---- seven of each
@@ -28,6 +29,7 @@ pub record Seven (w : Wagers) : Type 0 where
   pub board : length (w .board) ≡ 7
   pub pocket : length (w .pocket) ≡ 7
   pub lo : length (w .lo) ≡ 7
+  pub six : length (w .six) ≡ 7
 
 pub seat-seven : (w : Wagers) (b : List ℕ) → Seven w → Seven (withSeat w b)
 seat-seven w b s =
@@ -37,31 +39,44 @@ seat-seven w b s =
       board = length-set (w .board) p (word b 4) ∙ s .board;
       pocket = length-set (w .pocket) p (word b 6) ∙ s .pocket;
       lo = length-set (w .lo) p (word b 8) ∙ s .lo;
+      six = length-set (w .six) p (word b 10) ∙ s .six;
     }
 
 -- ---- the test of one seat, in numbers
 
 pub absent-zero : (w : Wagers) (k : ℕ) → noWager w k ≡ true
-    → (getD (w .antes) k 0 ≡ 0) × (getD (w .board) k 0 ≡ 0) × (getD (w .pocket) k 0 ≡ 0) × (getD (w .lo) k 0 ≡ 0)
+    → (getD (w .antes) k 0 ≡ 0) × (getD (w .board) k 0 ≡ 0) × (getD (w .pocket) k 0 ≡ 0) × (getD (w .lo) k 0 ≡ 0) × (getD (w .six) k 0 ≡ 0)
 unfolding noWager
 absent-zero w k e =
     let a = getD (w .antes) k 0 in
     let b = getD (w .board) k 0 in
     let p = getD (w .pocket) k 0 in
     let l = getD (w .lo) k 0 in
-    let all = and-true (eqb a 0 && eqb b 0) (eqb p 0 && eqb l 0) e in
+    let s = getD (w .six) k 0 in
+    let all = and-true (eqb a 0 && eqb b 0) ((eqb p 0 && eqb l 0) && eqb s 0) e in
+    let rest = and-true (eqb p 0 && eqb l 0) (eqb s 0) (all .1) in
     let first = and-true (eqb a 0) (eqb b 0) (all .0) in
-    let second = and-true (eqb p 0) (eqb l 0) (all .1) in
-    (eqb-true a 0 (first .0), eqb-true b 0 (first .1), eqb-true p 0 (second .0), eqb-true l 0 (second .1))
+    let second = and-true (eqb p 0) (eqb l 0) (rest .0) in
+    (eqb-true a 0 (first .0), eqb-true b 0 (first .1), eqb-true p 0 (second .0), eqb-true l 0 (second .1), eqb-true s 0 (rest .1))
 
-sides-true : (t : Table) (x y z : ℕ) → sidesFit t x y z ≡ true → (x ≤ t .largest) × (y ≤ t .largest) × (z ≤ t .largest)
-sides-true t x y z e =
-    let p = and-true (leb x (t .largest)) (leb y (t .largest) && leb z (t .largest)) e in
-    let q = and-true (leb y (t .largest)) (leb z (t .largest)) (p .1) in
-    (leb-true x (t .largest) (p .0), leb-true y (t .largest) (q .0), leb-true z (t .largest) (q .1))
+sides-true : (t : Table) (x y z s : ℕ) → sidesFit t x y z s ≡ true → (x ≤ t .largest) × (y ≤ t .largest) × (z ≤ t .largest) × (s ≤ mostSix t)
+sides-true t x y z s e =
+    let all = and-true (leb x (t .largest) && leb y (t .largest)) (leb z (t .largest) && leb s (mostSix t)) e in
+    let p = and-true (leb x (t .largest)) (leb y (t .largest)) (all .0) in
+    let q = and-true (leb z (t .largest)) (leb s (mostSix t)) (all .1) in
+    (leb-true x (t .largest) (p .0), leb-true y (t .largest) (p .1), leb-true z (t .largest) (q .0), leb-true s (mostSix t) (q .1))
 
-pub sides-fit : (t : Table) (x y z : ℕ) → x ≤ t .largest → y ≤ t .largest → z ≤ t .largest → sidesFit t x y z ≡ true
-sides-fit t x y z p q r = simp (le-leb x (t .largest) p, le-leb y (t .largest) q, le-leb z (t .largest) r)
+pub sides-fit : (t : Table) (x y z s : ℕ) → x ≤ t .largest → y ≤ t .largest → z ≤ t .largest → s ≤ mostSix t → sidesFit t x y z s ≡ true
+sides-fit t x y z s p q r u = simp (le-leb x (t .largest) p, le-leb y (t .largest) q, le-leb z (t .largest) r, le-leb s (mostSix t) u)
+
+-- an All-Six wager is within the largest ante too
+pub most-six : (t : Table) → mostSix t ≤ t .largest
+unfolding mostSix
+most-six t = go (eqb (t .six) 0)
+  where
+    go : (none : Bool) → (if none then 0 else t .largest) ≤ t .largest
+    go true = omega arith
+    go false = omega arith
 
 pub record Wagered (t : Table) (w : Wagers) (k : ℕ) : Type 0 where
   pub table : hasTable t ≡ true
@@ -70,6 +85,7 @@ pub record Wagered (t : Table) (w : Wagers) (k : ℕ) : Type 0 where
   pub board : getD (w .board) k 0 ≤ t .largest
   pub pocket : getD (w .pocket) k 0 ≤ t .largest
   pub lo : getD (w .lo) k 0 ≤ t .largest
+  pub six : getD (w .six) k 0 ≤ mostSix t
 
 to-wagered : (t : Table) (w : Wagers) (k : ℕ) → (hasTable t && wagersFit t w k) ≡ true → Wagered t w k
 unfolding wagersFit
@@ -78,11 +94,12 @@ to-wagered t w k e =
     let b = getD (w .board) k 0 in
     let p = getD (w .pocket) k 0 in
     let l = getD (w .lo) k 0 in
-    let all = and-true (hasTable t) (anteFits t a && sidesFit t b p l) e in
-    let fit = and-true (anteFits t a) (sidesFit t b p l) (all .1) in
+    let s = getD (w .six) k 0 in
+    let all = and-true (hasTable t) (anteFits t a && sidesFit t b p l s) e in
+    let fit = and-true (anteFits t a) (sidesFit t b p l s) (all .1) in
     let ante = between-true (t .smallest) (t .largest) a (fit .0) in
-    let sides = sides-true t b p l (fit .1) in
-    record { table = all .0; ante-low = ante .0; ante-high = ante .1; board = sides .0; pocket = sides .1; lo = sides .2 }
+    let sides = sides-true t b p l s (fit .1) in
+    record { table = all .0; ante-low = ante .0; ante-high = ante .1; board = sides .0; pocket = sides .1; lo = sides .2; six = sides .3 }
 
 of-wagered : (t : Table) (w : Wagers) (k : ℕ) → Wagered t w k → (hasTable t && wagersFit t w k) ≡ true
 unfolding wagersFit
@@ -91,9 +108,10 @@ of-wagered t w k g =
     let b = getD (w .board) k 0 in
     let p = getD (w .pocket) k 0 in
     let l = getD (w .lo) k 0 in
-    both (hasTable t) (anteFits t a && sidesFit t b p l) (g .table)
-    (both (anteFits t a) (sidesFit t b p l) (is-between (t .smallest) (t .largest) a (g .ante-low) (g .ante-high))
-    (sides-fit t b p l (g .board) (g .pocket) (g .lo)))
+    let s = getD (w .six) k 0 in
+    both (hasTable t) (anteFits t a && sidesFit t b p l s) (g .table)
+    (both (anteFits t a) (sidesFit t b p l s) (is-between (t .smallest) (t .largest) a (g .ante-low) (g .ante-high))
+    (sides-fit t b p l s (g .board) (g .pocket) (g .lo) (g .six)))
 
 -- ---- the test of all seats, at each of them
 
@@ -134,11 +152,11 @@ absent t w k h e p =
 
 -- whether a seat plays or not, no wager is above the largest ante
 pub wagers-most : (t : Table) (w : Wagers) (k : ℕ) → k < 7 → seatsFit t w ≡ true
-    → (getD (w .antes) k 0 ≤ t .largest) × (getD (w .board) k 0 ≤ t .largest) × (getD (w .pocket) k 0 ≤ t .largest) × (getD (w .lo) k 0 ≤ t .largest)
+    → (getD (w .antes) k 0 ≤ t .largest) × (getD (w .board) k 0 ≤ t .largest) × (getD (w .pocket) k 0 ≤ t .largest) × (getD (w .lo) k 0 ≤ t .largest) × (getD (w .six) k 0 ≤ t .largest)
 wagers-most t w k h e =
     either _ t w k h e
-    (λ z. let n = absent-zero w k z in (omega (arith, n .0), omega (arith, n .1), omega (arith, n .2), omega (arith, n .3)))
-    (λ g. (g .ante-high, g .board, g .pocket, g .lo))
+    (λ z. let n = absent-zero w k z in (omega (arith, n .0), omega (arith, n .1), omega (arith, n .2), omega (arith, n .3), omega (arith, n .4)))
+    (λ g. (g .ante-high, g .board, g .pocket, g .lo, omega (arith, g .six, most-six t)))
 
 pub seats-need-table : (t : Table) (w : Wagers) → seatsFit t w ≡ true → anyPlays (w .antes) ≡ true → hasTable t ≡ true
 unfolding anyPlays
@@ -159,7 +177,7 @@ seats-fresh t = seats-of t noWagers (λ k h. fits-none t noWagers k (simp (zeros
 -- ---- an accepted seat record
 
 pub record AllowedSeat (t : Table) (w : Wagers) (b : List ℕ) : Type 0 where
-  pub zeros : zeroFrom 10 b ≡ true
+  pub zeros : zeroFrom 12 b ≡ true
   pub low : 1 ≤ byte b 1
   pub high : byte b 1 ≤ 7
   pub above : isAbove (w .antes) (byte b 1) ≡ true
@@ -168,18 +186,19 @@ pub record AllowedSeat (t : Table) (w : Wagers) (b : List ℕ) : Type 0 where
   pub board : word b 4 ≤ t .largest
   pub pocket : word b 6 ≤ t .largest
   pub lo : word b 8 ≤ t .largest
+  pub six : word b 10 ≤ mostSix t
 
 pub seat-accepted : (t : Table) (w : Wagers) (b : List ℕ) → seatRefusal t w b ≡ 0 → AllowedSeat t w b
 unfolding seatRefusal
 seat-accepted t w b e =
-    let n4 = passed (zeroFrom 10 b) _ _ e in
+    let n4 = passed (zeroFrom 12 b) _ _ e in
     let n7 = passed (between 1 7 (byte b 1) && isAbove (w .antes) (byte b 1)) _ _ (n4 .1) in
     let n8 = passed (anteFits t (word b 2)) _ _ (n7 .1) in
-    let n9 = passed (sidesFit t (word b 4) (word b 6) (word b 8)) _ _ (n8 .1) in
+    let n9 = passed (sidesFit t (word b 4) (word b 6) (word b 8) (word b 10)) _ _ (n8 .1) in
     let seat = and-true (between 1 7 (byte b 1)) (isAbove (w .antes) (byte b 1)) (n7 .0) in
     let number = between-true 1 7 (byte b 1) (seat .0) in
     let ante = between-true (t .smallest) (t .largest) (word b 2) (n8 .0) in
-    let sides = sides-true t (word b 4) (word b 6) (word b 8) (n9 .0) in
+    let sides = sides-true t (word b 4) (word b 6) (word b 8) (word b 10) (n9 .0) in
     record {
       zeros = n4 .0;
       low = number .0;
@@ -190,6 +209,7 @@ seat-accepted t w b e =
       board = sides .0;
       pocket = sides .1;
       lo = sides .2;
+      six = sides .3;
     }
 
 module _ (t : Table) (w : Wagers) (b : List ℕ) (e : seatRefusal t w b ≡ 0) where
@@ -217,7 +237,8 @@ module _ (t : Table) (w : Wagers) (b : List ℕ) (seven : Seven w) (table : hasT
       let d = seat-put t w b e (w .board) (word b 4) (seven .board) in
       let p = seat-put t w b e (w .pocket) (word b 6) (seven .pocket) in
       let l = seat-put t w b e (w .lo) (word b 8) (seven .lo) in
-      record { table = table; ante-low = omega arith; ante-high = omega arith; board = omega arith; pocket = omega arith; lo = omega arith }
+      let s = seat-put t w b e (w .six) (word b 10) (seven .six) in
+      record { table = table; ante-low = omega arith; ante-high = omega arith; board = omega arith; pocket = omega arith; lo = omega arith; six = omega arith }
 
   elsewhere : (k : ℕ) → (k ≡ place (byte b 1) → ⊥) → seatFits t w k ≡ true → seatFits t (withSeat w b) k ≡ true
   unfolding noWager wagersFit
@@ -228,6 +249,7 @@ module _ (t : Table) (w : Wagers) (b : List ℕ) (seven : Seven w) (table : hasT
         getD-set-other (w .board) p k (word b 4) 0 n,
         getD-set-other (w .pocket) p k (word b 6) 0 n,
         getD-set-other (w .lo) p k (word b 8) 0 n,
+        getD-set-other (w .six) p k (word b 10) 0 n,
       ) f
 
   pub seat-plays : plays (withSeat w b .antes) (place (byte b 1)) ≡ true

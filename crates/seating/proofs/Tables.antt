@@ -6,8 +6,8 @@ use mathlib.Core.Path.{_≡_, refl}
 use mathlib.Core.Bool.{Bool, true, false, _&&_}
 use mathlib.Core.List.{List}
 use native.Mathlib.Omega.{arith}
-use lib.Dec.{eqb}
-use borrow.Author.Tests.{eqb-true, lt-ltb, not-false}
+use lib.Dec.{eqb, leb}
+use borrow.Author.Tests.{eqb-true, leb-true, lt-ltb, not-false}
 use Rattle.counting.specs.Count.{everyOf}
 use Rattle.records.specs.Bytes.{byte, zeroFrom, areBytes, between}
 use Rattle.counting.proofs.Tests.{and-true, both, second-holds, other-holds, positive, not-zero, passed, pass}
@@ -30,14 +30,17 @@ pub record Posted (t : Table) : Type 0 where
   pub board-high : t .board ≤ 4
   pub pocket-low : 1 ≤ t .pocket
   pub pocket-high : t .pocket ≤ 3
+  pub six-high : t .six ≤ 5
 
 fit-posted : (t : Table) → limitsFit t ≡ true → tablesFit t ≡ true → Posted t
 unfolding limitsFit tablesFit
 fit-posted t e f =
     let limits = and-true (between 5 15 (t .smallest)) (between 25 100 (t .largest)) e in
-    let tables = and-true (between 1 5 (t .base) && between 1 2 (t .lo)) (between 1 4 (t .board) && between 1 3 (t .pocket)) f in
+    let tables = and-true (between 1 5 (t .base) && between 1 2 (t .lo)) ((between 1 4 (t .board) && between 1 3 (t .pocket)) && leb (t .six) 5) f in
+    let last = and-true (between 1 4 (t .board) && between 1 3 (t .pocket)) (leb (t .six) 5) (tables .1) in
     let first = and-true (between 1 5 (t .base)) (between 1 2 (t .lo)) (tables .0) in
-    let second = and-true (between 1 4 (t .board)) (between 1 3 (t .pocket)) (tables .1) in
+    let second = and-true (between 1 4 (t .board)) (between 1 3 (t .pocket)) (last .0) in
+    let six = leb-true (t .six) 5 (last .1) in
     let smallest = between-true 5 15 (t .smallest) (limits .0) in
     let largest = between-true 25 100 (t .largest) (limits .1) in
     let base = between-true 1 5 (t .base) (first .0) in
@@ -54,6 +57,7 @@ record Blank (t : Table) : Type 0 where
   lo : t .lo ≡ 0
   board : t .board ≡ 0
   pocket : t .pocket ≡ 0
+  six : t .six ≡ 0
 
 is-blank : (t : Table) → isBlank t ≡ true → Blank t
 unfolding isBlank
@@ -61,11 +65,12 @@ is-blank t e =
     let limits = eqb (t .smallest) 0 && eqb (t .largest) 0 in
     let first = eqb (t .base) 0 && eqb (t .lo) 0 in
     let second = eqb (t .board) 0 && eqb (t .pocket) 0 in
-    let p = and-true (limits && first) second e in
+    let p = and-true (limits && first) (second && eqb (t .six) 0) e in
+    let r = and-true second (eqb (t .six) 0) (p .1) in
     let q = and-true limits first (p .0) in
     let a = and-true (eqb (t .smallest) 0) (eqb (t .largest) 0) (q .0) in
     let b = and-true (eqb (t .base) 0) (eqb (t .lo) 0) (q .1) in
-    let c = and-true (eqb (t .board) 0) (eqb (t .pocket) 0) (p .1) in
+    let c = and-true (eqb (t .board) 0) (eqb (t .pocket) 0) (r .0) in
     record {
       smallest = eqb-true (t .smallest) 0 (a .0);
       largest = eqb-true (t .largest) 0 (a .1);
@@ -73,6 +78,7 @@ is-blank t e =
       lo = eqb-true (t .lo) 0 (b .1);
       board = eqb-true (t .board) 0 (c .0);
       pocket = eqb-true (t .pocket) 0 (c .1);
+      six = eqb-true (t .six) 0 (r .1);
     }
 
 -- what holds of a blank table and of a posted one holds of a table that fits
@@ -90,7 +96,7 @@ posted t e h = either Posted t e (λ b. let z : t .smallest ≡ 0 = b .smallest 
 pub no-table : (t : Table) → tableFits t ≡ true → hasTable t ≡ false → t ≡ noTable
 no-table t e h =
     either (λ (u : Table). u ≡ noTable) t e
-    (λ b i. record { smallest = b .smallest i; largest = b .largest i; base = b .base i; lo = b .lo i; board = b .board i; pocket = b .pocket i })
+    (λ b i. record { smallest = b .smallest i; largest = b .largest i; base = b .base i; lo = b .lo i; board = b .board i; pocket = b .pocket i; six = b .six i })
     (λ l f. absurd (omega (arith, fit-posted t l f, eqb-true (t .smallest) 0 (not-false (eqb (t .smallest) 0) h))))
 
 pub table-high : (t : Table) → tableFits t ≡ true → (t .smallest ≤ 15) × (t .largest ≤ 100)
@@ -106,19 +112,19 @@ table-fresh = refl
 -- ---- an accepted table record
 
 record Accepted (b : List ℕ) : Type 0 where
-  zeros : zeroFrom 7 b ≡ true
+  zeros : zeroFrom 8 b ≡ true
   limits : limitsFit (tableOf b) ≡ true
   tables : tablesFit (tableOf b) ≡ true
 
 accepted : (b : List ℕ) → tableRefusal b ≡ 0 → Accepted b
 unfolding tableRefusal
 accepted b e =
-    let n4 = passed (zeroFrom 7 b) _ _ e in
+    let n4 = passed (zeroFrom 8 b) _ _ e in
     let n5 = passed (limitsFit (tableOf b)) _ _ (n4 .1) in
     let n6 = passed (tablesFit (tableOf b)) _ _ (n5 .1) in
     record { zeros = n4 .0; limits = n5 .0; tables = n6 .0 }
 
-pub table-accepted : (b : List ℕ) → tableRefusal b ≡ 0 → (zeroFrom 7 b ≡ true) × Posted (tableOf b)
+pub table-accepted : (b : List ℕ) → tableRefusal b ≡ 0 → (zeroFrom 8 b ≡ true) × Posted (tableOf b)
 table-accepted b e = let a = accepted b e in (a .zeros, fit-posted (tableOf b) (a .limits) (a .tables))
 
 pub table-kept : (b : List ℕ) → tableRefusal b ≡ 0 → tableFits (tableOf b) ≡ true
@@ -152,6 +158,7 @@ record Small (t : Table) : Type 0 where
   lo : t .lo < 256
   board : t .board < 256
   pocket : t .pocket < 256
+  six : t .six < 256
 
 small : (t : Table) → tableFits t ≡ true → Small t
 small t e = either Small t e (λ b. omega arith) (λ l f. let p = fit-posted t l f in omega arith)
@@ -167,4 +174,5 @@ own-table-bytes t e =
       lt-ltb (t .lo) 256 (omega arith),
       lt-ltb (t .board) 256 (omega arith),
       lt-ltb (t .pocket) 256 (omega arith),
+      lt-ltb (t .six) 256 (omega arith),
     )

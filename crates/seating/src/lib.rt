@@ -14,7 +14,7 @@ use records::word_at;
 ghost use mathlib.Core.Path.{_≡_};
 ghost use Rattle.records.specs.Bytes.{word};
 ghost use Rattle.seating.specs.Table.{limitsFit, tablesFit, tableOf, tableRefusal, hasTable, isBlank, tableFits};
-ghost use Rattle.seating.specs.Seat.{anteFits, sidesFit, isAbove, seatRises, seatRefusal, withSeat, seatFits, seatsFit};
+ghost use Rattle.seating.specs.Seat.{anteFits, mostSix, sidesFit, isAbove, seatRises, seatRefusal, withSeat, seatFits, seatsFit};
 
 pub struct Table {
     pub smallest: u8,
@@ -23,6 +23,8 @@ pub struct Table {
     pub lo: u8,
     pub board: u8,
     pub pocket: u8,
+    // 0 where All-Six isn't offered.
+    pub six: u8,
 }
 
 pub struct Wagers {
@@ -30,6 +32,7 @@ pub struct Wagers {
     pub board: [u16; 7],
     pub pocket: [u16; 7],
     pub lo: [u16; 7],
+    pub six: [u16; 7],
 }
 
 // What a table record says.
@@ -43,6 +46,7 @@ pub fn table_of(bytes: &[u8]) -> Table
         lo: byte_at(bytes, 4),
         board: byte_at(bytes, 5),
         pocket: byte_at(bytes, 6),
+        six: byte_at(bytes, 7),
     }
 }
 
@@ -50,7 +54,7 @@ pub fn table_of(bytes: &[u8]) -> Table
 pub fn table_refusal(bytes: &[u8]) -> u8
     ensures { λ r. ⌜ r ≡ tableRefusal (now (bytes .entry)) ⌝ }
 {
-    if !is_zero_from(bytes, 7) {
+    if !is_zero_from(bytes, 8) {
         return 4;
     }
     let table = table_of(bytes);
@@ -75,7 +79,7 @@ impl Table {
     {
         let first = is_between(1, 5, self.base) & is_between(1, 2, self.lo);
         let second = is_between(1, 4, self.board) & is_between(1, 3, self.pocket);
-        first & second
+        first & (second & (self.six <= 5))
     }
 
     fn is_blank(self) -> bool
@@ -84,7 +88,7 @@ impl Table {
         let limits = (self.smallest == 0) & (self.largest == 0);
         let first = (self.base == 0) & (self.lo == 0);
         let second = (self.board == 0) & (self.pocket == 0);
-        limits & first & second
+        (limits & first) & (second & (self.six == 0))
     }
 
     // The table record was read.
@@ -107,11 +111,21 @@ impl Table {
         (self.smallest as u16 <= ante) & (ante <= self.largest as u16)
     }
 
-    fn sides_fit(self, board: u16, pocket: u16, lo: u16) -> bool
-        ensures { λ r. ⌜ r ≡ sidesFit self board pocket lo ⌝ }
+    // The most that may be wagered on All-Six.
+    fn most_six(self) -> u16
+        ensures { λ r. ⌜ r ≡ mostSix self ⌝ }
+    {
+        if self.six == 0 {
+            return 0;
+        }
+        self.largest as u16
+    }
+
+    fn sides_fit(self, board: u16, pocket: u16, lo: u16, six: u16) -> bool
+        ensures { λ r. ⌜ r ≡ sidesFit self board pocket lo six ⌝ }
     {
         let most = self.largest as u16;
-        (board <= most) & ((pocket <= most) & (lo <= most))
+        ((board <= most) & (pocket <= most)) & ((lo <= most) & (six <= self.most_six()))
     }
 
     // The record's ante lies between the limits.
@@ -123,9 +137,14 @@ impl Table {
 
     // None of the record's side wagers is above the largest ante.
     fn takes_sides(self, bytes: &[u8]) -> bool
-        ensures { λ r. ⌜ r ≡ sidesFit self (word (now (bytes .entry)) 4) (word (now (bytes .entry)) 6) (word (now (bytes .entry)) 8) ⌝ }
+        ensures { λ r. ⌜ r ≡ sidesFit self (word (now (bytes .entry)) 4) (word (now (bytes .entry)) 6) (word (now (bytes .entry)) 8) (word (now (bytes .entry)) 10) ⌝ }
     {
-        self.sides_fit(word_at(bytes, 4), word_at(bytes, 6), word_at(bytes, 8))
+        self.sides_fit(
+            word_at(bytes, 4),
+            word_at(bytes, 6),
+            word_at(bytes, 8),
+            word_at(bytes, 10),
+        )
     }
 }
 
@@ -157,7 +176,7 @@ impl Wagers {
         ensures { λ r. ⌜ r ≡ seatRefusal table self (now (bytes .entry)) ⌝ }
     {
         let antes = self.antes;
-        if !is_zero_from(bytes, 10) {
+        if !is_zero_from(bytes, 12) {
             return 4;
         }
         if !seat_rises(antes, bytes) {
@@ -181,11 +200,13 @@ impl Wagers {
         let board = self.board;
         let pocket = self.pocket;
         let lo = self.lo;
+        let six = self.six;
         Wagers {
             antes: put7(antes, at, word_at(bytes, 2)),
             board: put7(board, at, word_at(bytes, 4)),
             pocket: put7(pocket, at, word_at(bytes, 6)),
             lo: put7(lo, at, word_at(bytes, 8)),
+            six: put7(six, at, word_at(bytes, 10)),
         }
     }
 
@@ -197,12 +218,14 @@ impl Wagers {
         let board = self.board;
         let pocket = self.pocket;
         let lo = self.lo;
+        let six = self.six;
         let a = at7(antes, k);
         let b = at7(board, k);
         let p = at7(pocket, k);
         let l = at7(lo, k);
-        let none = ((a == 0) & (b == 0)) & ((p == 0) & (l == 0));
-        none | (table.is_read() & (table.ante_fits(a) & table.sides_fit(b, p, l)))
+        let s = at7(six, k);
+        let none = ((a == 0) & (b == 0)) & (((p == 0) & (l == 0)) & (s == 0));
+        none | (table.is_read() & (table.ante_fits(a) & table.sides_fit(b, p, l, s)))
     }
 
     // Each seat has wagered nothing, or within the limits of a table that was read.

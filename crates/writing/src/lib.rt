@@ -52,7 +52,7 @@ fn table_record(table: Table) -> [u8; 16]
         t.lo,
         t.board,
         t.pocket,
-        0,
+        t.six,
         0,
         0,
         0,
@@ -73,10 +73,12 @@ fn seat_record(round: Round, k: u8) -> [u8; 16]
     let boards = round.wagers.board;
     let pockets = round.wagers.pocket;
     let los = round.wagers.lo;
+    let sixes = round.wagers.six;
     let ante = at7(antes, k as usize) as u8;
     let board = at7(boards, k as usize) as u8;
     let pocket = at7(pockets, k as usize) as u8;
     let lo = at7(los, k as usize) as u8;
+    let six = at7(sixes, k as usize) as u8;
     [
         2,
         k + 1,
@@ -88,7 +90,7 @@ fn seat_record(round: Round, k: u8) -> [u8; 16]
         0,
         lo,
         0,
-        0,
+        six,
         0,
         0,
         0,

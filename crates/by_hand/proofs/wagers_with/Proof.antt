@@ -30,7 +30,14 @@ put7-requires-4 c κs = search needs
 
 returns-4 : tie.Need-returns-4
 unfolding wagersWith
-returns-4 c = simp (ne-eqb _ 0 (c .before .before .before .if1 .left), ne-eqb _ 1 (c .before .before .if2 .left), ne-eqb _ 2 (c .before .if3 .left), c .put74 .ensures)
+returns-4 c = simp (ne-eqb _ 0 (c .before .before .before .before .if1 .left), ne-eqb _ 1 (c .before .before .before .if2 .left), ne-eqb _ 2 (c .before .before .if3 .left), eq-eqb _ 3 (c .before .if4 .taken), c .put74 .ensures)
+
+put7-requires-5 : tie.Need-put7-requires-5
+put7-requires-5 c κs = search needs
+
+returns-5 : tie.Need-returns-5
+unfolding wagersWith
+returns-5 c = simp (ne-eqb _ 0 (c .before .before .before .before .if1 .left), ne-eqb _ 1 (c .before .before .before .if2 .left), ne-eqb _ 2 (c .before .before .if3 .left), ne-eqb _ 3 (c .before .if4 .left), c .put75 .ensures)
 
 pub wagers-with-spec : {M : Type 1} → statement M
 wagers-with-spec =
@@ -43,4 +50,6 @@ wagers-with-spec =
     put7-requires-3
     returns-3
     put7-requires-4
-    returns-4)
+    returns-4
+    put7-requires-5
+    returns-5)

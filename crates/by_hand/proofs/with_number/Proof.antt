@@ -20,16 +20,20 @@ chosen-requires-5 c κs = search needs
 chosen-requires-6 : tie.Need-chosen-requires-6
 chosen-requires-6 c κs = search needs
 
+chosen-requires-7 : tie.Need-chosen-requires-7
+chosen-requires-7 c κs = search needs
+
 returns : tie.Need-returns
 returns c =
     let p = c .before .before .before in
     simp (
-      c .chosen6 .ensures,
-      c .before .chosen5 .ensures,
-      c .before .before .chosen4 .ensures,
-      p .chosen3 .ensures,
-      p .before .chosen2 .ensures,
-      p .before .before .chosen .ensures,
+      c .chosen7 .ensures,
+      c .before .chosen6 .ensures,
+      c .before .before .chosen5 .ensures,
+      p .chosen4 .ensures,
+      p .before .chosen3 .ensures,
+      p .before .before .chosen2 .ensures,
+      p .before .before .before .chosen .ensures,
     )
 
 pub with-number-spec : {M : Type 1} → statement M
@@ -42,4 +46,5 @@ with-number-spec =
     chosen-requires-4
     chosen-requires-5
     chosen-requires-6
+    chosen-requires-7
     returns)

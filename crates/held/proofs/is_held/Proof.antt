@@ -29,16 +29,18 @@ returns : tie.Need-returns
 unfolding isHeld
 returns c =
     let round = c .before .before .before .before .before .before .before .before .before .before .before .args .round in
+    let fields = c .before .before .before .before .before .before .before .before .before .before .before .good .0 .1 .1 .1 in
     let antes : length (round .wagers .antes) ≡ 7 = search needs in
     let board : length (round .wagers .board) ≡ 7 = search needs in
     let pocket : length (round .wagers .pocket) ≡ 7 = search needs in
+    let six : length (round .wagers .six) ≡ 7 = search (needs, fields .0 .1 .1 .1 .1 .1 .1 .0 .1 .0 .1) in
     let lo : length (round .wagers .lo) ≡ 7 = search needs in
     let cards : length (round .deck .cards) ≡ 52 = search needs in
     let raises : length (round .play .raises) ≡ 21 = search needs in
     let folds : length (round .play .folds) ≡ 7 = search needs in
     let long : Long round =
     record {
-      wagers = record { antes = antes; board = board; pocket = pocket; lo = lo };
+      wagers = record { antes = antes; board = board; pocket = pocket; lo = lo; six = six };
       cards = cards;
       play = record { raises = raises; folds = folds };
     } in

@@ -20,8 +20,11 @@ byte-at-requires-5 c κs = search needs
 byte-at-requires-6 : tie.Need-byte-at-requires-6
 byte-at-requires-6 c κs = search needs
 
+byte-at-requires-7 : tie.Need-byte-at-requires-7
+byte-at-requires-7 c κs = search needs
+
 returns : tie.Need-returns
-returns c = simp (c .byte-at6 .ensures, c .before .byte-at5 .ensures, c .before .before .byte-at4 .ensures, c .before .before .before .byte-at3 .ensures, c .before .before .before .before .byte-at2 .ensures, c .before .before .before .before .before .byte-at .ensures)
+returns c = simp (c .byte-at7 .ensures, c .before .byte-at6 .ensures, c .before .before .byte-at5 .ensures, c .before .before .before .byte-at4 .ensures, c .before .before .before .before .byte-at3 .ensures, c .before .before .before .before .before .byte-at2 .ensures, c .before .before .before .before .before .before .byte-at .ensures)
 
 pub table-of-spec : {M : Type 1} → statement M
 table-of-spec =
@@ -33,4 +36,5 @@ table-of-spec =
     byte-at-requires-4
     byte-at-requires-5
     byte-at-requires-6
+    byte-at-requires-7
     returns)

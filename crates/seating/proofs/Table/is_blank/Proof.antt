@@ -1,5 +1,5 @@
-use Rattle.seating.specs.Table.{isBlank}
 use borrow.Author.Needs.{needs}
+use Rattle.seating.specs.Table.{isBlank}
 use Rattle.seating.proofs.Table.is_blank.Statement.{statement}
 use Rattle.seating.proofs.Table.is_blank.Tie as tie
 

@@ -17,7 +17,7 @@ is-between-requires-4 c κs = search needs
 
 returns : tie.Need-returns
 unfolding tablesFit
-returns c = simp (c .is-between4 .ensures, c .before .is-between3 .ensures, c .before .before .is-between2 .ensures, c .before .before .before .is-between .ensures)
+returns c = simp (c .before .is-between4 .ensures, c .before .before .is-between3 .ensures, c .before .before .before .is-between2 .ensures, c .before .before .before .before .is-between .ensures)
 
 pub tables-fit-spec : {M : Type 1} → statement M
 tables-fit-spec =

@@ -14,7 +14,7 @@ returns : tie.Need-returns
 unfolding seatRefusal
 returns c =
     let b = c .before .before .before .before .args .bytes .now in
-    let zeros : zeroFrom 10 b ≡ false = sym (c .before .is-zero-from .ensures) ∙ not-true _ (c .if1 .taken) in
+    let zeros : zeroFrom 12 b ≡ false = sym (c .before .is-zero-from .ensures) ∙ not-true _ (c .if1 .taken) in
     rw zeros refl
 
 seat-rises-requires : tie.Need-seat-rises-requires

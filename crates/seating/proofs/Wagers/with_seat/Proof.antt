@@ -35,8 +35,14 @@ word-at-requires-4 c κs = search needs
 put7-requires-4 : tie.Need-put7-requires-4
 put7-requires-4 c κs = search needs
 
+word-at-requires-5 : tie.Need-word-at-requires-5
+word-at-requires-5 c κs = search needs
+
+put7-requires-5 : tie.Need-put7-requires-5
+put7-requires-5 c κs = search needs
+
 returns : tie.Need-returns
-returns c = simp (c .put74 .ensures, c .before .word-at4 .ensures, c .before .before .put73 .ensures, c .before .before .before .word-at3 .ensures, c .before .before .before .before .put72 .ensures, c .before .before .before .before .before .word-at2 .ensures, c .before .before .before .before .before .before .put7 .ensures, c .before .before .before .before .before .before .before .word-at .ensures, c .before .before .before .before .before .before .before .before .before .before .before .before .place-of .ensures, c .before .before .before .before .before .before .before .before .before .before .before .before .before .byte-at .ensures)
+returns c = simp (c .put75 .ensures, c .before .word-at5 .ensures, c .before .before .put74 .ensures, c .before .before .before .word-at4 .ensures, c .before .before .before .before .put73 .ensures, c .before .before .before .before .before .word-at3 .ensures, c .before .before .before .before .before .before .put72 .ensures, c .before .before .before .before .before .before .before .word-at2 .ensures, c .before .before .before .before .before .before .before .before .put7 .ensures, c .before .before .before .before .before .before .before .before .before .word-at .ensures, c .before .before .before .before .before .before .before .before .before .before .before .before .before .before .before .place-of .ensures, c .before .before .before .before .before .before .before .before .before .before .before .before .before .before .before .before .byte-at .ensures)
 
 pub with-seat-spec : {M : Type 1} → statement M
 with-seat-spec =
@@ -53,4 +59,6 @@ with-seat-spec =
     put7-requires-3
     word-at-requires-4
     put7-requires-4
+    word-at-requires-5
+    put7-requires-5
     returns)
