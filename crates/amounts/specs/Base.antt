@@ -32,7 +32,7 @@ staysIn r k = stillIn (r .wagers .antes) (r .play) k
 
 -- what its five cards are called
 unfoldable pub handOf : Round → ℕ → FiveName
-handOf r k = nameFive (five (r .wagers .antes) (r .deck .cards) k)
+handOf r k = nameFive (five (r .table .six) (r .wagers .antes) (r .deck .cards) k)
 
 -- what the table's base pay table says of that
 unfoldable pub basePayOf : Round → ℕ → Pay

@@ -7,6 +7,7 @@ use counting::at7;
 use holding::community_of;
 use holding::five_of;
 use holding::hole_of;
+use holding::six_of;
 use names::FiveName;
 use pays::Pay;
 use pays::handed_back;
@@ -16,7 +17,7 @@ use round::Round;
 ghost use mathlib.Core.Path.{_≡_};
 ghost use Prim.Native.Nat.{_+_, _*_};
 ghost use Rattle.amounts.specs.Base.{baseWager, handOf, baseAt, baseOf, basesOf};
-ghost use Rattle.amounts.specs.Sides.{boardPayOf, pocketAmount, loAmount};
+ghost use Rattle.amounts.specs.Sides.{boardPayOf, pocketAmount, loAmount, sixAmount};
 
 // A seat's win in the pool, in dollars, and what its base wager hands back besides a share of the pool, in cents.
 pub struct Base {
@@ -58,7 +59,8 @@ pub fn hand_of(round: Round, k: u8) -> FiveName
 {
     let antes = round.wagers.antes;
     let cards = round.deck.cards;
-    let five = five_of(antes, cards, k);
+    let offer = round.table.six;
+    let five = five_of(offer, antes, cards, k);
     names::five_by_word(five[0], five[1], five[2], five[3], five[4])
 }
 
@@ -111,7 +113,8 @@ pub fn board_pay_of(round: Round) -> Pay
 {
     let antes = round.wagers.antes;
     let cards = round.deck.cards;
-    let three = community_of(antes, cards);
+    let offer = round.table.six;
+    let three = community_of(offer, antes, cards);
     let name = names::board_by_word(three[0], three[1], three[2]);
     odds::board_pay(round.table.board, name)
 }
@@ -127,7 +130,8 @@ pub fn pocket_amount(round: Round, k: u8) -> u64
     if wager == 0 {
         return 0;
     }
-    let two = hole_of(antes, cards, k);
+    let offer = round.table.six;
+    let two = hole_of(offer, antes, cards, k);
     let name = names::pocket_by_word(two[0], two[1]);
     let pay = odds::pocket_pay(round.table.pocket, name);
     handed_back(pay, wager as u32)
@@ -143,8 +147,26 @@ pub fn lo_amount(round: Round, k: u8) -> u64
     if wager == 0 {
         return 0;
     }
-    let five = five_of(antes, cards, k);
+    let offer = round.table.six;
+    let five = five_of(offer, antes, cards, k);
     let name = names::lo_by_word(five[0], five[1], five[2], five[3], five[4]);
     let pay = odds::lo_pay(round.table.lo, name);
+    handed_back(pay, wager as u32)
+}
+
+pub fn six_amount(round: Round, k: u8) -> u64
+    ensures { λ r. ⌜ r ≡ sixAmount round k ⌝ }
+{
+    let antes = round.wagers.antes;
+    let placed = round.wagers.six;
+    let cards = round.deck.cards;
+    let wager = at7(placed, k as usize);
+    if wager == 0 {
+        return 0;
+    }
+    let offer = round.table.six;
+    let six = six_of(offer, antes, cards, k);
+    let name = allsix::six_by_word(six[0], six[1], six[2], six[3], six[4], six[5]);
+    let pay = odds::six_pay(round.table.six, name);
     handed_back(pay, wager as u32)
 }

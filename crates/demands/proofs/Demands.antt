@@ -166,7 +166,7 @@ accepted-led-prefix first after lent h z =
     let none = prefix-ends first after (read-done (readPrefix first after) lent z .0) in
     (none, rw (none, prefix-none first) (accepted-led-file first lent h (rw (none, prefix-none first) at z)))
 
--- And what records, each accepted, lead to is not refused, where it is finished and the list is 28 long: a held round,
+-- And what records, each accepted, lead to is not refused, where it is finished and the list is 35 long: a held round,
 pub led-accepted-round : (r : Round) (lent : List ℕ) (records : List (List ℕ)) → length lent ≡ resultsLong → Leads freshRound records r → isFinished r ≡ true
     → AcceptedRound r lent records
 led-accepted-round r lent records room leads finished =
@@ -242,13 +242,13 @@ whole-accepted lent room = led-accepted-file wholeFile lent wholeRound whole-eve
 -- These are the answer to its file and the list that is then given, a seat on each line.
 pub whole-file : (lent : List ℕ) → length lent ≡ resultsLong
     → (fileAnswer wholeFile (length lent) ≡ PaidFile 600000 24999)
-    × (fileList wholeFile lent ≡ 2183300 ∷ 20500 ∷ 10500 ∷ 0
-    ∷ 516600 ∷ 0 ∷ 0 ∷ 0
-    ∷ 0 ∷ 0 ∷ 0 ∷ 0
-    ∷ 0 ∷ 0 ∷ 0 ∷ 0
-    ∷ 0 ∷ 0 ∷ 0 ∷ 0
-    ∷ 0 ∷ 0 ∷ 0 ∷ 0
-    ∷ 0 ∷ 0 ∷ 0 ∷ 0 ∷ [])
+    × (fileList wholeFile lent ≡ 2183300 ∷ 20500 ∷ 10500 ∷ 0 ∷ 0
+    ∷ 516600 ∷ 0 ∷ 0 ∷ 0 ∷ 0
+    ∷ 0 ∷ 0 ∷ 0 ∷ 0 ∷ 0
+    ∷ 0 ∷ 0 ∷ 0 ∷ 0 ∷ 0
+    ∷ 0 ∷ 0 ∷ 0 ∷ 0 ∷ 0
+    ∷ 0 ∷ 0 ∷ 0 ∷ 0 ∷ 0
+    ∷ 0 ∷ 0 ∷ 0 ∷ 0 ∷ 0 ∷ [])
 whole-file lent room =
     let a = whole-accepted lent room in (rw (whole-pool .0, whole-pool .1) at (a .answered), a .listed ∙ whole-results)
 

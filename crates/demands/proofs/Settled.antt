@@ -30,7 +30,7 @@ module _ (r : Round) (lent : List ℕ) where
   unfolding settleList
   settle-left n = simp (ne-eqb (settleRefusal r (length lent)) 0 (λ e. n (settle-number r (length lent) ∙ e)))
 
-  -- no refusal: the round is held, the list has 28 places, the round is finished, and the results are written
+  -- no refusal: the round is held, the list has 35 places, the round is finished, and the results are written
   pub record Done : Type 0 where
     pub held : isHeld r ≡ true
     pub room : length lent ≡ resultsLong

@@ -17,10 +17,10 @@ use Rattle.names.specs.Board.{boardBy, nameBoard}
 use Rattle.names.specs.Pocket.{aceFace, pocketBy, namePocket}
 use Rattle.names.specs.Lo.{isLo, loBy, nameLo}
 use Rattle.odds.specs.Tables.{baseLines, loLines, boardLines, pocketLines}
-use Rattle.odds.specs.Pays.{payIn, basePay, loPay, boardPay, pocketPay}
+use Rattle.odds.specs.Pays.{payIn, basePay, loPay, boardPay, pocketPay, sixPay}
 use Rattle.pool.specs.Pool.{shareOf, sharesOf, winsFit, shareRefusal, poolOf}
 use Rattle.seating.specs.Table.{limitsFit, tablesFit, isBlank, tableFits, tableRecord}
-use Rattle.seating.specs.Seat.{noWager, wagersFit, seatsFit, seatRecord}
+use Rattle.seating.specs.Seat.{noWager, mostSix, wagersFit, seatsFit, seatRecord}
 use Rattle.dealing.specs.Part.{deckFits, partRecord}
 use Rattle.choosing.specs.Streets.{hasChosen, isOpen, streetsOver}
 use Rattle.choosing.specs.Choice.{choiceRecord}
@@ -35,15 +35,15 @@ use Rattle.reading.specs.File.{fileRecords}
 use Rattle.reading.specs.Joined.{joined}
 use Rattle.reading.proofs.Records.{records-joined}
 use Rattle.reading.proofs.Readings.{leads-whole}
-use Rattle.holding.specs.Deal.{playingBefore, hole, community, five}
+use Rattle.holding.specs.Deal.{playingBefore, dealersFirst, communityAt, hole, community, five}
 use Rattle.amounts.specs.Base.{baseWager, handOf, basePayOf, pooled, win, kept, wins}
-use Rattle.amounts.specs.Sides.{boardPayOf, pocketPayOf, loPayOf, boardAmount, pocketAmount, loAmount}
+use Rattle.amounts.specs.Sides.{boardPayOf, pocketPayOf, loPayOf, sixPayOf, boardAmount, pocketAmount, loAmount, sixAmount}
 use Rattle.results.specs.Results.{pool, baseAmount, seatAmounts, results}
 use Rattle.demands.specs.Floor.{floorOf, paidOf, mostPooled}
 use Rattle.demands.specs.Whole.{wholeFile, wholeRound}
 
 pub whole-held : isHeld wholeRound ≡ true
-unfolding wholeRound isHeld limitsFit tablesFit isBlank tableFits noWager wagersFit seatsFit deckFits faulty repeats repeatedAt zeroFrom anyPlays isOpen streetsOver slotFits streetFits playFits everyBelow someBelow everyOf
+unfolding wholeRound isHeld limitsFit tablesFit isBlank tableFits noWager mostSix wagersFit seatsFit deckFits faulty repeats repeatedAt zeroFrom anyPlays isOpen streetsOver slotFits streetFits playFits everyBelow someBelow everyOf
 whole-held = refl
 
 pub whole-even : length wholeFile % 16 ≡ 0
@@ -59,7 +59,7 @@ pub whole-leads : Leads freshRound (fileRecords wholeFile) wholeRound
 unfolding wholeRound
 whole-leads =
     let long : Long wholeRound =
-    record { wagers = record { antes = refl; board = refl; pocket = refl; lo = refl }; cards = refl; play = record { raises = refl; folds = refl } } in
+    record { wagers = record { antes = refl; board = refl; pocket = refl; lo = refl; six = refl }; cards = refl; play = record { raises = refl; folds = refl } } in
     let own = written wholeRound long (held-fits wholeRound whole-held) in
     rw (whole-bytes, records-joined (recordsOf wholeRound) (leads-whole own)) own
 
@@ -67,21 +67,21 @@ pub whole-finished : isFinished wholeRound ≡ true
 unfolding wholeRound isOpen streetsOver someBelow
 whole-finished = refl
 
-pub whole-results : results wholeRound ≡ 2183300 ∷ 20500 ∷ 10500 ∷ 0 ∷ 516600 ∷ replicate 23 0
-unfolding wholeRound tally everyBelow someBelow count total gather ofRank ofSuit kinds flush rankOn run straight highest fiveBy nameFive boardBy nameBoard aceFace pocketBy namePocket isLo loBy nameLo baseLines loLines boardLines pocketLines payIn basePay loPay boardPay pocketPay shareOf sharesOf winsFit shareRefusal poolOf everyOf playingBefore hole community five baseWager handOf basePayOf pooled win kept wins boardPayOf pocketPayOf loPayOf boardAmount pocketAmount loAmount pool baseAmount seatAmounts results
+pub whole-results : results wholeRound ≡ 2183300 ∷ 20500 ∷ 10500 ∷ 0 ∷ 0 ∷ 516600 ∷ replicate 29 0
+unfolding wholeRound tally everyBelow someBelow count total gather ofRank ofSuit kinds flush rankOn run straight highest fiveBy nameFive boardBy nameBoard aceFace pocketBy namePocket isLo loBy nameLo baseLines loLines boardLines pocketLines payIn basePay loPay boardPay pocketPay shareOf sharesOf winsFit shareRefusal poolOf everyOf playingBefore dealersFirst communityAt hole community five baseWager handOf basePayOf pooled win kept wins boardPayOf pocketPayOf loPayOf boardAmount pocketAmount loAmount sixPay sixPayOf sixAmount pool baseAmount seatAmounts results
 whole-results = refl
 
 -- two seats have a win in the pool, and the third demand allows no more
 pub whole-pooled : tally 7 (pooled wholeRound) ≡ mostPooled
-unfolding wholeRound tally everyBelow someBelow count ofRank ofSuit flush rankOn run straight fiveBy nameFive baseLines payIn basePay playingBefore hole community five handOf basePayOf pooled
+unfolding wholeRound tally everyBelow someBelow count ofRank ofSuit flush rankOn run straight fiveBy nameFive baseLines payIn basePay playingBefore dealersFirst communityAt hole community five handOf basePayOf pooled
 whole-pooled = refl
 
 -- the pool in dollars, full and as paid
 pub whole-pool : (pool wholeRound .full ≡ 600000) × (pool wholeRound .paid ≡ 24999)
-unfolding wholeRound tally everyBelow someBelow count total gather ofRank ofSuit flush rankOn run straight fiveBy nameFive baseLines payIn basePay shareOf sharesOf winsFit shareRefusal poolOf everyOf playingBefore hole community five baseWager handOf basePayOf pooled win wins pool
+unfolding wholeRound tally everyBelow someBelow count total gather ofRank ofSuit flush rankOn run straight fiveBy nameFive baseLines payIn basePay shareOf sharesOf winsFit shareRefusal poolOf everyOf playingBefore dealersFirst communityAt hole community five baseWager handOf basePayOf pooled win wins pool
 whole-pool = (refl, refl)
 
 -- the second seat is paid its floor and no more
 pub floor-reached : (floorOf (wholeRound .table) (isRoyal (handOf wholeRound 1)) (win wholeRound 1) ≡ 4166) × (paidOf wholeRound (results wholeRound) 1 ≡ 416600)
-unfolding wholeRound tally everyBelow someBelow count ofRank ofSuit flush rankOn run straight fiveBy nameFive baseLines payIn basePay playingBefore hole community five baseWager handOf basePayOf pooled win floorOf paidOf
+unfolding wholeRound tally everyBelow someBelow count ofRank ofSuit flush rankOn run straight fiveBy nameFive baseLines payIn basePay playingBefore dealersFirst communityAt hole community five baseWager handOf basePayOf pooled win floorOf paidOf
 floor-reached = (refl, rw whole-results)

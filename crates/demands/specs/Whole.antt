@@ -24,12 +24,13 @@ wholeFile =
 unfoldable pub wholeRound : Round
 wholeRound =
     record {
-      table = record { smallest = 5; largest = 100; base = 2; lo = 1; board = 1; pocket = 1 };
+      table = record { smallest = 5; largest = 100; base = 2; lo = 1; board = 1; pocket = 1; six = 0 };
       wagers = record {
         antes = 100 ∷ 100 ∷ 0 ∷ 0 ∷ 0 ∷ 0 ∷ 0 ∷ [];
         board = 5 ∷ 0 ∷ 0 ∷ 0 ∷ 0 ∷ 0 ∷ 0 ∷ [];
         pocket = 5 ∷ 5 ∷ 0 ∷ 0 ∷ 0 ∷ 0 ∷ 0 ∷ [];
         lo = 0 ∷ 10 ∷ 0 ∷ 0 ∷ 0 ∷ 0 ∷ 0 ∷ [];
+        six = 0 ∷ 0 ∷ 0 ∷ 0 ∷ 0 ∷ 0 ∷ 0 ∷ [];
       };
       deck = record {
         cards = 50 ∷ 46 ∷ 26 ∷ 30 ∷ 34 ∷ 38 ∷ 42

@@ -86,6 +86,7 @@ fn table_of(smallest: u16, largest: u16) -> Table {
         lo: 1,
         board: 1,
         pocket: 1,
+        six: 0,
     }
 }
 

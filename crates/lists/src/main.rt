@@ -1,4 +1,4 @@
-// Settles with lists of 0, 27, 28 and 29 numbers, and writes into rooms of 0, 207, 208 and 209 bytes: when 1 is answered, and that a refusal changes nothing lent.
+// Settles with lists of 28, 34, 35 and 36 numbers, and writes into rooms of 0, 207, 208 and 209 bytes: when 1 is answered, and that a refusal changes nothing lent.
 //
 // Standard input is the round file of document 01. It is settled whole (`file`), without its last byte (`odd file`) and empty; then
 // the round that it leads to is settled as a held round, as are the fresh one and one with a fifth deck part, which no records lead to
@@ -35,7 +35,7 @@ ghost use Prim.Native.Nat.{_≤_};
 
 const NAME: [u8; 5] = *b"lists";
 
-const ROOM: usize = 29;
+const ROOM: usize = 36;
 
 // What stands in the list before: no amount of the round.
 const BEFORE: u64 = 7;
@@ -50,13 +50,13 @@ const BYTE_BEFORE: u8 = 255;
 
 // The lengths that are tried.
 fn long(k: u8) -> usize
-    ensures { λ r. ⌜ r ≤ 29 ⌝ }
+    ensures { λ r. ⌜ r ≤ 36 ⌝ }
 {
     match k {
-        0 => 0,
-        1 => 27,
-        2 => 28,
-        _ => 29,
+        0 => 28,
+        1 => 34,
+        2 => 35,
+        _ => 36,
     }
 }
 
@@ -166,7 +166,7 @@ fn write_written(what: &[u8], n: usize, answer: WriteAnswer, changed: u64) -> bo
 }
 
 fn ask_file(what: &[u8], file: &[u8], n: usize) -> bool
-    requires { ⌜ n ≤ 29 ⌝ }
+    requires { ⌜ n ≤ 36 ⌝ }
 {
     let mut list = [BEFORE; ROOM];
     let answer = settle_file(file, &mut list[0..n]);
@@ -174,7 +174,7 @@ fn ask_file(what: &[u8], file: &[u8], n: usize) -> bool
 }
 
 fn ask_round(what: &[u8], round: Round, n: usize) -> bool
-    requires { ⌜ n ≤ 29 ⌝ }
+    requires { ⌜ n ≤ 36 ⌝ }
 {
     let mut list = [BEFORE; ROOM];
     let answer = settle(round, &mut list[0..n]);
@@ -203,7 +203,7 @@ fn with_a_fifth_part(mut round: Round) -> Round {
 }
 
 fn ask_files(file: [u8; WHOLE], n: usize) -> bool
-    requires { ⌜ n ≤ 29 ⌝ }
+    requires { ⌜ n ≤ 36 ⌝ }
 {
     if !ask_file(b"file", &file, n) {
         return false;
@@ -216,19 +216,19 @@ fn ask_files(file: [u8; WHOLE], n: usize) -> bool
 
 // The round that a file leads to.
 fn ask_read(what: &[u8], file: &[u8], n: usize) -> bool
-    requires { ⌜ n ≤ 29 ⌝ }
+    requires { ⌜ n ≤ 36 ⌝ }
 {
     ask_round(what, read_file(file).round, n)
 }
 
 fn ask_changed(what: &[u8], file: &[u8], n: usize) -> bool
-    requires { ⌜ n ≤ 29 ⌝ }
+    requires { ⌜ n ≤ 36 ⌝ }
 {
     ask_round(what, with_a_fifth_part(read_file(file).round), n)
 }
 
 fn ask_rounds(file: [u8; WHOLE], n: usize) -> bool
-    requires { ⌜ n ≤ 29 ⌝ }
+    requires { ⌜ n ≤ 36 ⌝ }
 {
     if !ask_read(b"round", &file, n) {
         return false;

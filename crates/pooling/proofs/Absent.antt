@@ -14,7 +14,7 @@ use Rattle.led.specs.Led.{Led}
 use Rattle.led.proofs.Facts.{led-absent}
 use Rattle.pays.proofs.Amounts.{nothing-back}
 use Rattle.amounts.specs.Base.{staysIn, pooled, win, kept}
-use Rattle.amounts.specs.Sides.{boardAmount, pocketAmount, loAmount}
+use Rattle.amounts.specs.Sides.{boardAmount, pocketAmount, loAmount, sixAmount}
 use Rattle.results.specs.Results.{baseAmount, seatAmounts}
 use Rattle.results.proofs.Places.{base-none}
 
@@ -30,9 +30,9 @@ module _ (r : Round) (k : ℕ) (h : k < 7) where
   pub folded-base : (foldOf (r .play) k ≡ 0 → ⊥) → baseAmount r k ≡ 0
   folded-base f = out-base (simp (ne-eqb (foldOf (r .play) k) 0 f, and-false))
 
-  pub absent-amounts : Led r → plays (r .wagers .antes) k ≡ false → seatAmounts r k ≡ 0 ∷ 0 ∷ 0 ∷ 0 ∷ []
-  unfolding seatAmounts boardAmount pocketAmount loAmount
+  pub absent-amounts : Led r → plays (r .wagers .antes) k ≡ false → seatAmounts r k ≡ 0 ∷ 0 ∷ 0 ∷ 0 ∷ 0 ∷ []
+  unfolding seatAmounts boardAmount pocketAmount loAmount sixAmount
   absent-amounts l p =
       let zero = absent-zero (r .wagers) k (led-absent r l k h p) in
       let base : baseAmount r k ≡ 0 = out-base (simp p) in
-      simp (base, zero .1, zero .2, zero .3, nothing-back)
+      simp (base, zero .1, zero .2, zero .3, zero .4, nothing-back)

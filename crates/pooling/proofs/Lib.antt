@@ -4,3 +4,4 @@ pub mod Shared
 pub mod Absent
 pub mod Listed
 pub mod Folded
+pub mod Unpooled

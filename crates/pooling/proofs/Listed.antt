@@ -1,4 +1,4 @@
--- A posted table's pay tables are there: each says something of every name.
+-- A posted table's pay tables are there: each says something of every name, that of All-Six where it is offered.
 -- Assumes nothing.
 use Prim.Native.Nat.{ℕ, _+_, _-_, _≤_, _<_}
 use mathlib.Core.Path.{_≡_, refl, ap}
@@ -12,14 +12,16 @@ use Rattle.names.specs.declared.FiveName.{FiveName}
 use Rattle.names.specs.declared.BoardName.{BoardName}
 use Rattle.names.specs.declared.PocketName.{PocketName}
 use Rattle.names.specs.declared.LoName.{LoName}
+use Rattle.allsix.specs.declared.SixName.{SixName}
 use Rattle.names.specs.Five.{fivePlace}
 use Rattle.names.specs.Board.{boardPlace}
 use Rattle.names.specs.Pocket.{pocketPlace}
 use Rattle.pays.specs.declared.Pay.{Pay}
-use Rattle.pays.specs.declared.Pay.the-variants.{To, ThreeToTwo, Push, Loss, NoTable}
-use Rattle.odds.specs.Tables.{baseLines, loLines, boardLines, pocketLines}
-use Rattle.odds.specs.Pays.{payIn, payAt, loPlace, basePay, loPay, boardPay, pocketPay}
-use Rattle.odds.proofs.Places.{five-below, board-below, pocket-below, lo-below}
+use Rattle.pays.specs.declared.Pay.the-variants.{To, ThreeToTwo, To200000, Push, Loss, NoTable}
+use Rattle.odds.specs.Tables.{baseLines, loLines, boardLines, pocketLines, sixLines}
+use Rattle.odds.specs.Pays.{payIn, payAt, loPlace, sixLine, basePay, loPay, boardPay, pocketPay, sixPay}
+use Rattle.names.proofs.Places.{five-below}
+use Rattle.odds.proofs.Places.{board-below, pocket-below, lo-below, six-below}
 use Rattle.seating.specs.declared.Table.{Table}
 use Rattle.seating.proofs.Tables.{Posted}
 
@@ -27,6 +29,7 @@ use Rattle.seating.proofs.Tables.{Posted}
 isSaid : Pay → Bool
 isSaid (To odds) = true
 isSaid ThreeToTwo = true
+isSaid To200000 = true
 isSaid Push = true
 isSaid Loss = true
 isSaid NoTable = false
@@ -60,6 +63,10 @@ all-pocket : allSay pocketLines 3 5 ≡ true
 unfolding everyBelow isSaid payIn pocketLines
 all-pocket = refl
 
+all-six : allSay sixLines 5 10 ≡ true
+unfolding everyBelow isSaid payIn sixLines
+all-six = refl
+
 module _ (t : Table) (posted : Posted t) where
   pub base-listed : (name : FiveName) → basePay (t .base) name ≡ NoTable → ⊥
   unfolding basePay
@@ -76,3 +83,7 @@ module _ (t : Table) (posted : Posted t) where
   pub pocket-listed : (name : PocketName) → pocketPay (t .pocket) name ≡ NoTable → ⊥
   unfolding pocketPay
   pocket-listed name = listed pocketLines 3 5 all-pocket (t .pocket) (pocketPlace name) (posted .pocket-low) (posted .pocket-high) (pocket-below name)
+
+  pub six-listed : 1 ≤ t .six → (name : SixName) → sixPay (t .six) name ≡ NoTable → ⊥
+  unfolding sixPay
+  six-listed offered name = listed sixLines 5 10 all-six (t .six) (sixLine name) offered (posted .six-high) (six-below name)

@@ -117,7 +117,7 @@ module _ (r : Round) (l : Led r) (e : isFinished r ≡ true) where
   three : (i j k : ℕ) → k < j → j < i → i < 7 → pooled r i ≡ true → pooled r j ≡ true → pooled r k ≡ true → ⊥
   unfolding handOf
   three i j k b a h p q s =
-      no-three (r .wagers .antes) (r .deck .cards) deck i j k b a h (pooled-plays r j q) (pooled-plays r k s)
+      no-three (r .table .six) (r .wagers .antes) (r .deck .cards) deck i j k b a h (pooled-plays r j q) (pooled-plays r k s)
       (pooled-top r l i h p) (pooled-top r l j (omega arith) q) (pooled-top r l k (omega arith) s)
 
   -- at most two seats are in the pool
@@ -139,7 +139,7 @@ module _ (r : Round) (l : Led r) (e : isFinished r ≡ true) where
   one-royal i j other h m p q s = is-false (isRoyal (handOf r j)) (λ t. go t (ltb j i) refl)
     where
       go : isRoyal (handOf r j) ≡ true → (b : Bool) → ltb j i ≡ b → ⊥
-      go t true a = no-two (r .wagers .antes) (r .deck .cards) deck i j (ltb-true j i a) h (pooled-plays r j q) s t
+      go t true a = no-two (r .table .six) (r .wagers .antes) (r .deck .cards) deck i j (ltb-true j i a) h (pooled-plays r j q) s t
       go t false a =
           let above : i ≤ j = ltb-false j i a in
-          no-two (r .wagers .antes) (r .deck .cards) deck j i (omega arith) m (pooled-plays r i p) t s
+          no-two (r .table .six) (r .wagers .antes) (r .deck .cards) deck j i (omega arith) m (pooled-plays r i p) t s

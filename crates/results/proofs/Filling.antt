@@ -7,7 +7,7 @@ use native.Mathlib.Omega.{arith}
 use lib.ListN.{length, getD, set}
 use Rattle.counting.proofs.Fills.{Filled, rows-none, row-more, rows-all}
 use Rattle.round.specs.declared.Round.{Round}
-use Rattle.amounts.specs.Sides.{boardAmount, pocketAmount, loAmount}
+use Rattle.amounts.specs.Sides.{boardAmount, pocketAmount, loAmount, sixAmount}
 use Rattle.results.specs.declared.Amounts.{Amounts}
 use Rattle.results.specs.Results.{baseAmount, seatWagers, seatAmounts, resultsLong, results, amountsOf}
 use Rattle.results.proofs.Places.{seat-long}
@@ -15,7 +15,10 @@ use Rattle.results.proofs.Places.{seat-long}
 -- a list with the amounts of the seat at place k
 abbrev withSeat : List ℕ → ℕ → Amounts → List ℕ
 withSeat l k a =
-    set (set (set (set l (seatWagers * k) (a .base)) (seatWagers * k + 1) (a .board)) (seatWagers * k + 2) (a .pocket)) (seatWagers * k + 3) (a .lo)
+    set
+    (set (set (set (set l (seatWagers * k) (a .base)) (seatWagers * k + 1) (a .board)) (seatWagers * k + 2) (a .pocket)) (seatWagers * k + 3) (a .lo))
+    (seatWagers * k + 4)
+    (a .six)
 
 module _ (r : Round) where
   -- the amounts of the first k seats stand there
@@ -47,4 +50,6 @@ module _ (r : Round) where
       let s1 = one-more l k 0 (baseAmount r k) i (i + 1) s (omega arith) refl h (omega arith) refl in
       let s2 = one-more l1 k 1 (boardAmount r k) (i + 1) (i + 2) s1 refl (omega arith) h (omega arith) refl in
       let s3 = one-more l2 k 2 (pocketAmount r k) (i + 2) (i + 3) s2 refl (omega arith) h (omega arith) refl in
-      rw e (one-more l3 k 3 (loAmount r k) (i + 3) (seatWagers * (k + 1)) s3 refl (omega arith) h (omega arith) refl)
+      let l4 = set l3 (i + 3) (loAmount r k) in
+      let s4 = one-more l3 k 3 (loAmount r k) (i + 3) (i + 4) s3 refl (omega arith) h (omega arith) refl in
+      rw e (one-more l4 k 4 (sixAmount r k) (i + 4) (seatWagers * (k + 1)) s4 refl (omega arith) h (omega arith) refl)

@@ -9,7 +9,7 @@ use Rattle.round.specs.declared.Round.{Round}
 use Rattle.pool.specs.declared.Pool.{Pool}
 use Rattle.pool.specs.Pool.{poolOf}
 use Rattle.amounts.specs.Base.{wins, kept}
-use Rattle.amounts.specs.Sides.{boardPayOf, boardAmount, pocketAmount, loAmount}
+use Rattle.amounts.specs.Sides.{boardPayOf, boardAmount, pocketAmount, loAmount, sixAmount}
 use Rattle.results.specs.declared.Results.{Results}
 use Rattle.results.specs.declared.Judged.{Judged}
 use Rattle.results.specs.declared.Amounts.{Amounts}
@@ -28,13 +28,13 @@ baseAmount r k = kept r k + 100 * getD (pool r .shares) k 0
 
 -- how many amounts a seat has
 abbrev pub seatWagers : ℕ
-seatWagers = 4
+seatWagers = 5
 
--- in the order base, Board, Pocket, Lo Ball
+-- in the order base, Board, Pocket, Lo Ball, All-Six
 unfoldable pub seatAmounts : Round → ℕ → List ℕ
-seatAmounts r k = baseAmount r k ∷ boardAmount r k ∷ pocketAmount r k ∷ loAmount r k ∷ []
+seatAmounts r k = baseAmount r k ∷ boardAmount r k ∷ pocketAmount r k ∷ loAmount r k ∷ sixAmount r k ∷ []
 
--- The results list has 28 numbers: four a seat, seats 1 to 7.
+-- The results list has 35 numbers: five a seat, seats 1 to 7.
 abbrev pub resultsLong : ℕ
 resultsLong = seatWagers * 7
 
@@ -48,7 +48,7 @@ abbrev pub judgedOf : Round → Judged
 judgedOf r = record { wins = wins r; kept = each 7 (kept r); pool = pool r; board = boardPayOf r }
 
 abbrev pub amountsOf : Round → ℕ → Amounts
-amountsOf r k = record { base = baseAmount r k; board = boardAmount r k; pocket = pocketAmount r k; lo = loAmount r k }
+amountsOf r k = record { base = baseAmount r k; board = boardAmount r k; pocket = pocketAmount r k; lo = loAmount r k; six = sixAmount r k }
 
 -- the pool, full and as paid, and the results list
 abbrev pub resultsOf : Round → Results

@@ -7,6 +7,7 @@ use amounts::bases_of;
 use amounts::board_pay_of;
 use amounts::lo_amount;
 use amounts::pocket_amount;
+use amounts::six_amount;
 use counting::at7;
 use pays::Pay;
 use pays::handed_back;
@@ -18,11 +19,11 @@ ghost use mathlib.Core.Path.{_≡_};
 ghost use Prim.Native.Nat.{_<_};
 ghost use Rattle.results.specs.Results.{maximum, baseAmount, results, judgedOf, amountsOf, resultsOf};
 
-// How many amounts a seat has: base, Board, Pocket, Lo Ball.
-pub const SEAT_WAGERS: usize = 4;
+// How many amounts a seat has: base, Board, Pocket, Lo Ball, All-Six.
+pub const SEAT_WAGERS: usize = 5;
 
 // How many numbers the results list has: those of seats 1 to 7.
-pub const RESULTS: usize = 28;
+pub const RESULTS: usize = 35;
 
 // What settling a round gives.
 pub struct Results {
@@ -47,6 +48,7 @@ pub struct Amounts {
     pub board: u64,
     pub pocket: u64,
     pub lo: u64,
+    pub six: u64,
 }
 
 // The round maximum of a table, in dollars.
@@ -96,11 +98,13 @@ fn amounts_of(round: Round, judged: Judged, k: u8) -> Amounts
     let board = handed_back(pay, at7(placed, k as usize) as u32);
     let pocket = pocket_amount(round, k);
     let lo = lo_amount(round, k);
+    let six = six_amount(round, k);
     Amounts {
         base,
         board,
         pocket,
         lo,
+        six,
     }
 }
 
@@ -117,6 +121,7 @@ fn list_of(round: Round, judged: Judged) -> [u64; RESULTS]
         list[at + 1] = seat.board;
         list[at + 2] = seat.pocket;
         list[at + 3] = seat.lo;
+        list[at + 4] = seat.six;
         k += 1;
     }
     list

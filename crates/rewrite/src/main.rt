@@ -9,9 +9,9 @@
 // Example:
 //     ./run rewrite samples/choices-out-of-order.bin | ./run settle
 // prints
-//     1 0 1000 0 0
-//     3 0 0 0 0
-//     6 15000 0 0 0
+//     1 0 1000 0 0 0
+//     3 0 0 0 0 0
+//     6 15000 0 0 0 0
 //     pool 0 0
 //
 // The first 34 records are held and the bytes beyond are counted, as in `settle`. The file of the round has as many bytes as the file that led to it (`as-long`,

@@ -1,6 +1,6 @@
 // Settles the round file on standard input: what each seat is owed, in cents, or the refusal and its place.
 //
-// A round file is a run of 16-byte records. Printed are each playing seat's number and four amounts in cents (base, Board, Pocket, Lo Ball), then
+// A round file is a run of 16-byte records. Printed are each playing seat's number and five amounts in cents (base, Board, Pocket, Lo Ball, All-Six), then
 // the pool in dollars, full and as paid; or only `refused N at R`, the refusal's number and its place. Nothing is printed before all is read, and nothing
 // where a read fails: that, and a write that fails, is told on standard error.
 //
@@ -9,8 +9,8 @@
 // Example:
 //     ./run settle samples/whole-round.bin
 // prints
-//     1 2183300 20500 10500 0
-//     2 516600 0 0 0
+//     1 2183300 20500 10500 0 0
+//     2 516600 0 0 0 0
 //     pool 600000 24999
 //
 // The first 34 records are held and the bytes beyond are counted, which is enough for the answer of the whole file
@@ -79,7 +79,7 @@ fn printed(room: &[u8], last: usize, outcome: Outcome) -> Outcome {
     Outcome::Fault
 }
 
-// At most 34 lines of 86 bytes and one of 47, so they fit their room.
+// At most 34 lines of 107 bytes and one of 47, so they fit their room.
 fn print_paid(file: [u8; HELD_BYTES], results: [u64; RESULTS], full: u64, paid: u64) -> Outcome {
     let mut room = io::buffer();
     let seats = put_seats(&mut room, file, results);

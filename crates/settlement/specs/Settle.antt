@@ -20,7 +20,7 @@ use Rattle.settlement.specs.declared.FileSettlement.the-variants.{Paid a
 -- ---- a held round
 
 -- The number of the refusal, 0 where there is none. 17: the held round is neither the fresh one nor led to by accepted records. 1: the results
--- list isn't 28 long. 16: the round isn't finished. (room: how long the results list is.)
+-- list isn't 35 long. 16: the round isn't finished. (room: how long the results list is.)
 unfoldable pub settleRefusal : Round → ℕ → ℕ
 settleRefusal r room =
     if not (isHeld r) then 17

@@ -3,14 +3,11 @@ use borrow.Author.Needs.{needs}
 use Rattle.holding.proofs.community_of.Statement.{statement}
 use Rattle.holding.proofs.community_of.Tie as tie
 
-playing-before-requires : tie.Need-playing-before-requires
-playing-before-requires c κs = search needs
+community-at-requires : tie.Need-community-at-requires
+community-at-requires c κs = search needs
 
 cast-at : tie.Need-cast-at
 cast-at c = search needs
-
-mul-at : tie.Need-mul-at
-mul-at c = search needs
 
 at52-requires : tie.Need-at52-requires
 at52-requires c κs = search needs
@@ -29,15 +26,14 @@ at52-requires-3 c κs = search needs
 
 returns : tie.Need-returns
 unfolding community
-returns c = simp (c .at523 .ensures, c .before .at522 .ensures, c .before .before .at52 .ensures, c .before .before .before .playing-before .ensures)
+returns c = simp (c .at523 .ensures, c .before .at522 .ensures, c .before .before .at52 .ensures, c .before .before .before .community-at .ensures)
 
 pub community-of-spec : {M : Type 1} → statement M
 community-of-spec =
     tie.close
     (tie.spec
-    playing-before-requires
+    community-at-requires
     cast-at
-    mul-at
     at52-requires
     add-at52
     at52-requires-2

@@ -4,10 +4,10 @@ use Rattle.lists.proofs.changed.Statement.{statement}
 use Rattle.lists.proofs.changed.Tie as tie
 
 abbrev Inv-loop : tie.InvT-loop
-Inv-loop list changed₀ i₀ changed i = (i ≤ 29) × (changed ≤ i)
+Inv-loop list changed₀ i₀ changed i = (i ≤ 36) × (changed ≤ i)
 
 abbrev μ-loop : tie.MeasureT-loop
-μ-loop list changed₀ i₀ changed i = 29 - i
+μ-loop list changed₀ i₀ changed i = 36 - i
 
 loop-holds : tie.Need-loop-holds Inv-loop μ-loop
 loop-holds c = search needs

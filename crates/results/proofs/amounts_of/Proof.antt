@@ -21,9 +21,12 @@ pocket-amount-requires c κs = search needs
 lo-amount-requires : tie.Need-lo-amount-requires
 lo-amount-requires c κs = search needs
 
+six-amount-requires : tie.Need-six-amount-requires
+six-amount-requires c κs = search needs
+
 returns : tie.Need-returns
 unfolding boardAmount
-returns c = simp (c .lo-amount .ensures, c .before .pocket-amount .ensures, c .before .before .handed-back .ensures, c .before .before .before .at7 .ensures, c .before .before .before .before .base-amount .ensures, c .before .before .before .before .before .before .pre .1)
+returns c = simp (c .six-amount .ensures, c .before .lo-amount .ensures, c .before .before .pocket-amount .ensures, c .before .before .before .handed-back .ensures, c .before .before .before .before .at7 .ensures, c .before .before .before .before .before .base-amount .ensures, c .before .before .before .before .before .before .before .pre .1)
 
 pub amounts-of-spec : {M : Type 1} → statement M
 amounts-of-spec =
@@ -35,4 +38,5 @@ amounts-of-spec =
     handed-back-requires
     pocket-amount-requires
     lo-amount-requires
+    six-amount-requires
     returns)

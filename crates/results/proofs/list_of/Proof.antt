@@ -59,6 +59,15 @@ mul-list-4 c = search needs
 array-write-list-4 : tie.Need-array-write-list-4 Inv-loop μ-loop
 array-write-list-4 c = search needs
 
+add-list-4 : tie.Need-add-list-4 Inv-loop μ-loop
+add-list-4 c = search needs
+
+mul-list-5 : tie.Need-mul-list-5 Inv-loop μ-loop
+mul-list-5 c = search needs
+
+array-write-list-5 : tie.Need-array-write-list-5 Inv-loop μ-loop
+array-write-list-5 c = search needs
+
 add-k : tie.Need-add-k Inv-loop μ-loop
 add-k c = search needs
 
@@ -92,6 +101,9 @@ list-of-spec =
     add-list-3
     mul-list-4
     array-write-list-4
+    add-list-4
+    mul-list-5
+    array-write-list-5
     add-k
     loop-less
     loop-again
