@@ -1,0 +1,3 @@
+pub mod Records
+pub mod Amounts
+pub mod Files
