@@ -3,10 +3,12 @@
 use crate::held::Step;
 use crate::held_file;
 use crate::reading::{read, Refusal, RECORD};
-use crate::settle::{part_of_answer, settle, settle_round, Answer, Paid};
+use crate::settle::{first_result, part_of_answer, settle, settle_round};
+use crate::settle::{Answer, Paid, RESULTS_A_SEAT};
 
 /// What the settling program prints for a file: "each playing seat's number
-/// and four amounts in cents; then the pool in dollars, full and as paid".
+/// and [five] amounts in cents", All-Six last; "then the pool in dollars, full
+/// and as paid".
 pub fn lines(file: &[u8]) -> String {
     let round = match read(file) {
         Ok(round) => round,
@@ -15,9 +17,9 @@ pub fn lines(file: &[u8]) -> String {
     let mut text = Vec::new();
     let settled = settle_round(&round);
     for seat in &round.seats {
-        let first = 4 * usize::from(seat.number - 1);
+        let first = first_result(seat);
         push_number(&mut text, u64::from(seat.number));
-        push_numbers(&mut text, &settled.amounts[first..first + 4]);
+        push_numbers(&mut text, &settled.amounts[first..first + RESULTS_A_SEAT]);
         text.push(b'\n');
     }
     text.extend_from_slice(b"pool");
@@ -95,7 +97,7 @@ pub(crate) fn push_step(out: &mut Vec<u8>, step: &Step) {
     }
 }
 
-/// Appends `paid`, the 28 amounts, `pool` and the pool.
+/// Appends `paid`, the 35 amounts, `pool` and the pool.
 pub(crate) fn push_paid(out: &mut Vec<u8>, settled: &Paid) {
     out.extend_from_slice(b"paid");
     push_numbers(out, &settled.amounts);

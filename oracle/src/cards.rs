@@ -3,11 +3,14 @@
 //! 3 spades)."
 
 pub const SIX: u8 = 4;
+pub const NINE: u8 = 7;
 pub const TEN: u8 = 8;
 pub const JACK: u8 = 9;
 pub const QUEEN: u8 = 10;
 pub const KING: u8 = 11;
 pub const ACE: u8 = 12;
+
+pub const DIAMONDS: u8 = 1;
 
 /// The number of cards in the deck, and so the first number that is no card.
 pub const DECK: usize = 52;

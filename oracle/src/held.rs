@@ -8,8 +8,8 @@ use crate::records;
 use crate::settle::{settle_round, Paid};
 
 /// The places of the numbers in a held round's bytes.
-pub const WAGERS_AT: usize = 6;
-pub const CARDS_AT: usize = WAGERS_AT + 4 * 2 * MOST_SEATS;
+pub const WAGERS_AT: usize = 7;
+pub const CARDS_AT: usize = WAGERS_AT + 5 * 2 * MOST_SEATS;
 pub const PARTS_AT: usize = CARDS_AT + DECK;
 pub const RAISES_AT: usize = PARTS_AT + 1;
 pub const FOLDS_AT: usize = RAISES_AT + STREETS as usize * MOST_SEATS;
@@ -18,11 +18,11 @@ pub const LENGTH: usize = FOLDS_AT + MOST_SEATS;
 /// "Parts not yet filled are zero." Any numbers may stand in any place.
 #[derive(Clone, Debug, PartialEq, Eq)]
 pub struct Held {
-    /// Smallest and largest ante, then the base, Lo Ball, Board and Pocket
-    /// tables.
-    pub table: [u8; 6],
-    /// Antes, then Board, Pocket and Lo Ball wagers, each by seat.
-    pub wagers: [[u16; MOST_SEATS]; 4],
+    /// Smallest and largest ante, then the base, Lo Ball, Board, Pocket and
+    /// All-Six tables.
+    pub table: [u8; 7],
+    /// Antes, then Board, Pocket, Lo Ball and All-Six wagers, each by seat.
+    pub wagers: [[u16; MOST_SEATS]; 5],
     /// Top of the deck first.
     pub cards: [u8; DECK],
     /// The deck parts that were read.
@@ -54,8 +54,8 @@ impl Held {
         let mut numbers = bytes.iter().copied();
         let mut next = || numbers.next().unwrap_or(0);
         Held {
-            table: [(); 6].map(|()| next()),
-            wagers: [[(); MOST_SEATS]; 4]
+            table: [(); 7].map(|()| next()),
+            wagers: [[(); MOST_SEATS]; 5]
                 .map(|list| list.map(|()| u16::from_le_bytes([next(), next()]))),
             cards: [(); DECK].map(|()| next()),
             parts: next(),
@@ -98,12 +98,12 @@ impl Held {
     /// lead to is then another one.
     pub fn own_records(&self) -> Vec<[u8; RECORD]> {
         let mut own = Vec::new();
-        if self.table != [0; 6] {
+        if self.table != [0; 7] {
             own.push(records::table(self.table));
         }
         for (place, number) in (1..=MOST_SEATS as u8).enumerate() {
             let wagers = self.wagers.map(|list| list[place]);
-            if wagers != [0; 4] {
+            if wagers != [0; 5] {
                 own.push(records::seat(number, wagers));
             }
         }
@@ -141,7 +141,7 @@ impl Held {
         }
     }
 
-    /// "Settling a held round: 17, 1, 16." The results list is taken to be 28
+    /// "Settling a held round: 17, 1, 16." The results list is taken to be 35
     /// long, so 1 doesn't arise.
     pub fn settle(&self) -> Result<Paid, u8> {
         let round = self.round().ok_or(NOT_HELD)?;
@@ -164,16 +164,13 @@ impl Held {
     fn of(round: &Round) -> Held {
         let mut held = Held::fresh();
         if let Some(table) = &round.table {
-            let tables = [table.base, table.lo_ball, table.board, table.pocket];
-            held.table[..2].copy_from_slice(&[table.smallest, table.largest]);
-            held.table[2..].copy_from_slice(&tables);
+            held.table = table.numbers();
         }
         held.cards[..round.deck.len()].copy_from_slice(&round.deck);
         held.parts = (round.deck.len() / CARDS_IN_PART) as u8;
         for seat in &round.seats {
             let place = usize::from(seat.number - 1);
-            let wagers = [seat.ante, seat.board, seat.pocket, seat.lo_ball];
-            for (list, wager) in held.wagers.iter_mut().zip(wagers) {
+            for (list, wager) in held.wagers.iter_mut().zip(seat.wagers()) {
                 list[place] = wager;
             }
             for (street, raise) in held.raises.iter_mut().zip(seat.raises) {

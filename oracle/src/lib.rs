@@ -1,10 +1,11 @@
 //! A settler for rounds of Cajun Stud and a writer of their files, written from
-//! document 01, request a of document 02 and their readings as a plain rule
-//! sheet, with a generator of round files: it exists to be compared with
+//! document 01, requests a and b of document 02 and their readings as a plain
+//! rule sheet, with a generator of round files: it exists to be compared with
 //! another settler.
 
 pub mod answer;
 pub mod cards;
+pub mod deal;
 pub mod generate;
 pub mod handmade;
 pub mod held;

@@ -32,8 +32,8 @@ const SETTLE_HELP: &str = "\
 oracle settle [FILE]
 
 Reads a round file and prints a line for each playing seat (its number, then
-base, Board, Pocket and Lo Ball in cents), then 'pool F P' in dollars, full and
-as paid; or 'refused N at R' alone.
+base, Board, Pocket, Lo Ball and All-Six in cents), then 'pool F P' in dollars,
+full and as paid; or 'refused N at R' alone.
 ";
 
 const REWRITE_HELP: &str = "\
@@ -50,7 +50,7 @@ oracle stream
 
 Standard input is a run of round files, each preceded by its length as two
 bytes, low byte first. Prints one line a file:
-  paid A1 ... A28 pool F P part B take A written S RECORDS
+  paid A1 ... A35 pool F P part B take A written S RECORDS
   refused N at R part B HEX take A written S RECORDS
 B is the byte at which the refused part begins, HEX the part (nothing follows B
 where it is empty). A is what a round held as the file of it answers to a
@@ -87,6 +87,10 @@ Reads a text, one record a line, and writes its 16-byte records:
   choice 2 fold
   choice 2 number 7
   bytes 05 00 ff         (a record in hex, or the odd bytes at the end)
+A table that offers All-Six ends in 'six' and its pay table, a seat in 'six' and
+its All-Six wager; where that is left out it is 0:
+  table 5 100 base 2 lo 1 board 1 pocket 1 six 5
+  seat 1 ante 100 board 5 pocket 5 lo 0 six 10
 '#' begins a comment.
 ";
 
@@ -105,10 +109,10 @@ oracle handmade
 Writes a stream of held rounds, the same everywhere: some base rounds, and each
 of them with one byte changed, for every byte, to several other values. With
 each goes the record that the base round would accept next (for a finished
-round a choice, which is refused). An item is 159 bytes, with nothing between:
-    6  smallest and largest ante; base, Lo Ball, Board and Pocket tables
-   56  antes, Board, Pocket and Lo Ball wagers of seats 1 to 7, two bytes each,
-       low byte first
+round a choice, which is refused). An item is 174 bytes, with nothing between:
+    7  smallest and largest ante; base, Lo Ball, Board, Pocket and All-Six tables
+   70  antes, Board, Pocket, Lo Ball and All-Six wagers of seats 1 to 7, two
+       bytes each, low byte first
    52  the cards, top first
     1  how many deck parts were read
    21  raises in antes, streets one to three, of seats 1 to 7 each
@@ -121,12 +125,12 @@ oracle hold
 
 Standard input is a stream as 'oracle handmade' writes it. Prints one line an
 item: what the held round answers to the record, then what settling it is
-answered with a results list of 28, then the records of the file that it is
+answered with a results list of 35, then the records of the file that it is
 written as, each in hex without the zero bytes at its end.
   take next settle refused 16 write RECORDS
   take next settle refused 16 write refused 16
   take refused 17 settle refused 17 write refused 17
-  take refused 3 settle paid A1 ... A28 pool F P write RECORDS
+  take refused 3 settle paid A1 ... A35 pool F P write RECORDS
 'take finished' stands where the record finishes the round.
 ";
 

@@ -1,7 +1,7 @@
 //! Naming hands: the cards are sorted by rank and the names tested from the
 //! top, so that the highest name is given.
 
-use crate::cards::{is_card, rank, suit, ACE, JACK, KING, QUEEN, SIX, TEN};
+use crate::cards::{is_card, rank, suit, ACE, DIAMONDS, JACK, KING, NINE, QUEEN, SIX, TEN};
 
 #[derive(Clone, Copy, Debug, PartialEq, Eq)]
 pub enum FiveName {
@@ -53,6 +53,26 @@ pub enum LoBallName {
     Nothing,
 }
 
+/// All-Six names. Appendix E tells the diamonds' six-card royal from the other
+/// three. "The All-Six hand keeps the five-card names below three of a kind."
+#[derive(Clone, Copy, Debug, PartialEq, Eq)]
+pub enum SixName {
+    RoyalOfDiamonds,
+    Royal,
+    Five(FiveName),
+}
+
+impl SixName {
+    /// The place among all thirteen names, the highest first, from 0.
+    pub fn place(self) -> usize {
+        match self {
+            SixName::RoyalOfDiamonds => 0,
+            SixName::Royal => 1,
+            SixName::Five(five) => 2 + five as usize,
+        }
+    }
+}
+
 /// The name of five cards, or refusal 18 or 11.
 pub fn name_five(cards: &[u8]) -> Result<FiveName, u8> {
     checked(cards).map(five_name)
@@ -71,6 +91,11 @@ pub fn name_pocket(cards: &[u8]) -> Result<PocketName, u8> {
 /// The Lo Ball name of five cards, or refusal 18 or 11.
 pub fn name_lo_ball(cards: &[u8]) -> Result<LoBallName, u8> {
     checked(cards).map(lo_ball_name)
+}
+
+/// The All-Six name of six cards, or refusal 18 or 11.
+pub fn name_six(cards: &[u8]) -> Result<SixName, u8> {
+    checked(cards).map(six_name)
 }
 
 /// "Hands: 18, then 11."
@@ -181,6 +206,32 @@ pub fn lo_ball_name(cards: [u8; 5]) -> LoBallName {
         KING => LoBallName::KingHigh,
         _ => LoBallName::AceHigh,
     }
+}
+
+/// "The hand is the best five of the six, except that nine to ace of one suit
+/// is the six-card royal."
+pub fn six_name(cards: [u8; 6]) -> SixName {
+    let nine_to_ace = sorted_ranks(cards) == [NINE, TEN, JACK, QUEEN, KING, ACE];
+    if nine_to_ace && one_suit(&cards) && suit(cards[0]) == DIAMONDS {
+        SixName::RoyalOfDiamonds
+    } else if nine_to_ace && one_suit(&cards) {
+        SixName::Royal
+    } else {
+        SixName::Five(best_five_of_six(cards))
+    }
+}
+
+/// The highest name of the six choices of five. `FiveName` begins with the
+/// highest.
+fn best_five_of_six(cards: [u8; 6]) -> FiveName {
+    let names = (0..6).map(|left_out| five_name(five_of_six(cards, left_out)));
+    let best = names.min_by_key(|&name| name as u8);
+    best.unwrap_or(FiveName::Other)
+}
+
+/// Six cards without the one at a place, from 0.
+pub(crate) fn five_of_six(cards: [u8; 6], left_out: usize) -> [u8; 5] {
+    std::array::from_fn(|place| cards[place + usize::from(place >= left_out)])
 }
 
 /// "An ace ends a straight at either end (A-2-3-4-5, 10-J-Q-K-A) and never

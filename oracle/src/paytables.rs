@@ -1,7 +1,7 @@
-//! The pay tables of source document 002, Appendices A to D, as printed: a
+//! The pay tables of source document 002, Appendices A to E, as printed: a
 //! row for each outcome, a column for each table. All odds are "to 1".
 
-use crate::names::{BoardName, FiveName, LoBallName, PocketName};
+use crate::names::{BoardName, FiveName, LoBallName, PocketName, SixName};
 
 #[derive(Clone, Copy, Debug, PartialEq, Eq)]
 pub enum Pays {
@@ -19,6 +19,7 @@ pub const BASE_TABLES: usize = 5;
 pub const LO_BALL_TABLES: usize = 2;
 pub const BOARD_TABLES: usize = 4;
 pub const POCKET_TABLES: usize = 3;
+pub const ALL_SIX_TABLES: usize = 5;
 
 /// Appendix A, in the order of `FiveName`.
 #[rustfmt::skip]
@@ -72,6 +73,24 @@ pub const POCKET: [[Pays; POCKET_TABLES]; 5] = [
     /* nothing            */ [Loss,   Loss,   Loss],
 ];
 
+/// Appendix E, in the order of `SixName`. Two pair and below are its "Other".
+#[rustfmt::skip]
+pub const ALL_SIX: [[Pays; ALL_SIX_TABLES]; 13] = [
+    /* six-card royal, diamonds */ [To(1_000), To(1_000), To(1_000), To(1_000), To(200_000)],
+    /* six-card royal, other    */ [To(1_000), To(1_000), To(1_000), To(1_000), To(20_000)],
+    /* five-card royal          */ [To(1_000), To(1_000), To(1_000), To(1_000), To(1_000)],
+    /* straight flush           */ [To(200),   To(200),   To(200),   To(200),   To(200)],
+    /* four of a kind           */ [To(50),    To(50),    To(100),   To(100),   To(50)],
+    /* full house               */ [To(25),    To(25),    To(20),    To(20),    To(20)],
+    /* flush                    */ [To(20),    To(15),    To(15),    To(15),    To(15)],
+    /* straight                 */ [To(10),    To(10),    To(9),     To(10),    To(10)],
+    /* three of a kind          */ [To(5),     To(5),     To(8),     To(7),     To(5)],
+    /* two pair                 */ [Loss,      Loss,      Loss,      Loss,      Loss],
+    /* jacks to aces            */ [Loss,      Loss,      Loss,      Loss,      Loss],
+    /* sixes to tens            */ [Loss,      Loss,      Loss,      Loss,      Loss],
+    /* other                    */ [Loss,      Loss,      Loss,      Loss,      Loss],
+];
+
 pub fn base(table: u8, name: FiveName) -> Pays {
     column(&BASE[name as usize], table)
 }
@@ -86,6 +105,10 @@ pub fn board(table: u8, name: BoardName) -> Pays {
 
 pub fn pocket(table: u8, name: PocketName) -> Pays {
     column(&POCKET[name as usize], table)
+}
+
+pub fn all_six(table: u8, name: SixName) -> Pays {
+    column(&ALL_SIX[name.place()], table)
 }
 
 /// Tables are numbered from 1. A table that isn't there lists nothing, and

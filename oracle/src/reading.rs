@@ -2,7 +2,7 @@
 //! to the finished round or to the first refusal with its place.
 
 use crate::cards::{is_card, DECK};
-use crate::paytables::{BASE_TABLES, BOARD_TABLES, LO_BALL_TABLES, POCKET_TABLES};
+use crate::paytables::{ALL_SIX_TABLES, BASE_TABLES, BOARD_TABLES, LO_BALL_TABLES, POCKET_TABLES};
 
 pub const RECORD: usize = 16;
 pub const CARDS_IN_PART: usize = 13;
@@ -28,6 +28,27 @@ pub struct Table {
     pub lo_ball: u8,
     pub board: u8,
     pub pocket: u8,
+    /// "0 (not offered) or All Six pay table 1 to 5."
+    pub all_six: u8,
+}
+
+impl Table {
+    pub fn offers_all_six(&self) -> bool {
+        self.all_six > 0
+    }
+
+    /// In the order of the record.
+    pub fn numbers(&self) -> [u8; 7] {
+        [
+            self.smallest,
+            self.largest,
+            self.base,
+            self.lo_ball,
+            self.board,
+            self.pocket,
+            self.all_six,
+        ]
+    }
 }
 
 #[derive(Clone, Copy, Debug)]
@@ -37,6 +58,7 @@ pub struct Seat {
     pub board: u16,
     pub pocket: u16,
     pub lo_ball: u16,
+    pub all_six: u16,
     /// The antes raised on each street.
     pub raises: [u8; STREETS as usize],
     pub folded: bool,
@@ -45,6 +67,17 @@ pub struct Seat {
 }
 
 impl Seat {
+    /// In the order of the record.
+    pub fn wagers(&self) -> [u16; 5] {
+        [
+            self.ante,
+            self.board,
+            self.pocket,
+            self.lo_ball,
+            self.all_six,
+        ]
+    }
+
     /// The antes raised so far, all streets together.
     pub fn raised(&self) -> u16 {
         self.raises.iter().copied().map(u16::from).sum()
@@ -154,16 +187,17 @@ impl Round {
     }
 
     fn take_table(&mut self, record: &[u8]) -> Result<(), u8> {
-        let [_, smallest, largest, base, lo_ball, board, pocket, ..] = *record else {
+        let [_, smallest, largest, base, lo_ball, board, pocket, all_six, ..] = *record else {
             return Err(2);
         };
-        refuse(4, !all_zero(&record[7..]))?;
+        refuse(4, !all_zero(&record[8..]))?;
         refuse(5, !(5..=15).contains(&smallest))?;
         refuse(5, !(25..=100).contains(&largest))?;
         refuse(6, !is_table(base, BASE_TABLES))?;
         refuse(6, !is_table(lo_ball, LO_BALL_TABLES))?;
         refuse(6, !is_table(board, BOARD_TABLES))?;
         refuse(6, !is_table(pocket, POCKET_TABLES))?;
+        refuse(6, all_six != 0 && !is_table(all_six, ALL_SIX_TABLES))?;
         self.table = Some(Table {
             smallest,
             largest,
@@ -171,12 +205,14 @@ impl Round {
             lo_ball,
             board,
             pocket,
+            all_six,
         });
         Ok(())
     }
 
     /// An eighth seat is refusal 7 by itself: no number of 1 to 7 is above
-    /// that of the seventh.
+    /// that of the seventh. "A wager where [All-Six] isn't offered is 9, also
+    /// above the largest ante."
     fn take_seat(&mut self, table: &Table, record: &[u8]) -> Result<(), u8> {
         let number = record[1];
         let before = self.seats.last().map_or(0, |seat| seat.number);
@@ -184,18 +220,24 @@ impl Round {
         let board = two_bytes(record, 4);
         let pocket = two_bytes(record, 6);
         let lo_ball = two_bytes(record, 8);
+        let all_six = two_bytes(record, 10);
         let smallest = u16::from(table.smallest);
         let largest = u16::from(table.largest);
-        refuse(4, !all_zero(&record[10..]))?;
+        refuse(4, !all_zero(&record[12..]))?;
         refuse(7, !is_seat(number) || number <= before)?;
         refuse(8, ante < smallest || ante > largest)?;
         refuse(9, board > largest || pocket > largest || lo_ball > largest)?;
+        refuse(
+            9,
+            all_six > largest || (all_six > 0 && !table.offers_all_six()),
+        )?;
         self.seats.push(Seat {
             number,
             ante,
             board,
             pocket,
             lo_ball,
+            all_six,
             raises: [0; STREETS as usize],
             folded: false,
             chosen: 0,

@@ -12,17 +12,18 @@ pub fn record(bytes: &[u8]) -> [u8; RECORD] {
     whole
 }
 
-/// Smallest and largest ante, then the base, Lo Ball, Board and Pocket tables.
-pub fn table(numbers: [u8; 6]) -> [u8; RECORD] {
+/// Smallest and largest ante, then the base, Lo Ball, Board, Pocket and All-Six
+/// tables.
+pub fn table(numbers: [u8; 7]) -> [u8; RECORD] {
     let mut whole = record(&[TABLE]);
-    whole[1..7].copy_from_slice(&numbers);
+    whole[1..8].copy_from_slice(&numbers);
     whole
 }
 
-/// Ante, then the Board, Pocket and Lo Ball wagers.
-pub fn seat(number: u8, wagers: [u16; 4]) -> [u8; RECORD] {
+/// Ante, then the Board, Pocket, Lo Ball and All-Six wagers.
+pub fn seat(number: u8, wagers: [u16; 5]) -> [u8; RECORD] {
     let mut whole = record(&[SEAT, number]);
-    for (place, wager) in whole[2..10].chunks_exact_mut(2).zip(wagers) {
+    for (place, wager) in whole[2..12].chunks_exact_mut(2).zip(wagers) {
         place.copy_from_slice(&wager.to_le_bytes());
     }
     whole

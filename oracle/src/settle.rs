@@ -1,18 +1,21 @@
 //! Settling: from a round file to the amounts handed back, or the refusal.
 
-use crate::names::{board_name, five_name, lo_ball_name, pocket_name, BoardName, FiveName};
-use crate::names::{LoBallName, PocketName};
+use crate::deal::Deal;
+use crate::names::{board_name, five_name, lo_ball_name, pocket_name, six_name};
+use crate::names::{BoardName, FiveName, LoBallName, PocketName, SixName};
 use crate::paytables;
 use crate::pool;
 use crate::reading::{read, Finished, Refusal, Seat, MOST_SEATS, RECORD};
 
-pub const RESULTS: usize = 4 * MOST_SEATS;
+/// The results of one seat: base, Board, Pocket, Lo Ball, All-Six.
+pub const RESULTS_A_SEAT: usize = 5;
+pub const RESULTS: usize = RESULTS_A_SEAT * MOST_SEATS;
 
 /// What a finished round is settled with.
 #[derive(Clone, Copy, Debug, PartialEq, Eq)]
 pub struct Paid {
-    /// Cents, "four a seat, seats 1 to 7, in the order base, Board, Pocket,
-    /// Lo Ball".
+    /// Cents, "35 numbers, five a seat", seats 1 to 7, "in the order base,
+    /// Board, Pocket, Lo Ball", "All-Six last".
     pub amounts: [u64; RESULTS],
     /// The pool in dollars, full and as paid.
     pub full: u64,
@@ -33,6 +36,8 @@ pub(crate) struct SeatNames {
     pub board: BoardName,
     pub pocket: PocketName,
     pub lo_ball: LoBallName,
+    /// None where All-Six isn't offered.
+    pub six: Option<SixName>,
 }
 
 pub fn settle(file: &[u8]) -> Answer {
@@ -59,6 +64,8 @@ pub(crate) fn part_of_answer<'a>(file: &'a [u8], answer: &Answer) -> (usize, &'a
     (begin, file.get(begin..end).unwrap_or(&[]))
 }
 
+/// A folded seat's side wagers are settled, All-Six too: "Folded seats keep it."
+/// Base wins alone go into the pool, "nothing else does", whatever its odds.
 pub(crate) fn settle_round(round: &Finished) -> Paid {
     let table = &round.table;
     let mut amounts = [0; RESULTS];
@@ -78,6 +85,9 @@ pub(crate) fn settle_round(round: &Finished) -> Paid {
             paytables::pocket(table.pocket, names.pocket).handed_back(u64::from(seat.pocket));
         amounts[first + 3] =
             paytables::lo_ball(table.lo_ball, names.lo_ball).handed_back(u64::from(seat.lo_ball));
+        amounts[first + 4] = names.six.map_or(0, |six| {
+            paytables::all_six(table.all_six, six).handed_back(u64::from(seat.all_six))
+        });
     }
     let paid = pay_pool(round, &wins, &mut amounts);
     Paid {
@@ -103,23 +113,32 @@ fn pay_pool(round: &Finished, wins: &[u64], amounts: &mut [u64]) -> u64 {
     shares.iter().sum()
 }
 
-/// The names for the seat that is the so-manyth, from 0, of those playing:
-/// "From the top of the deck each playing seat, lowest first, takes two cards
-/// together; the next three are the community cards."
+/// The names for the seat that is the so-manyth, from 0, of those playing. The
+/// All-Six hand is "community, All-Six card, seat's two".
 pub(crate) fn names_of_seat(round: &Finished, order: usize) -> SeatNames {
-    let deck = &round.deck;
-    let pocket = [deck[2 * order], deck[2 * order + 1]];
-    let community = 2 * round.seats.len();
-    let board = [deck[community], deck[community + 1], deck[community + 2]];
+    let deal = Deal::new(round.seats.len(), round.table.offers_all_six());
+    let pocket = deal.pocket(order).map(|place| round.deck[place]);
+    let board = deal.community().map(|place| round.deck[place]);
     let five = [pocket[0], pocket[1], board[0], board[1], board[2]];
     SeatNames {
         five: five_name(five),
         board: board_name(board),
         pocket: pocket_name(pocket),
         lo_ball: lo_ball_name(five),
+        six: six_cards(round, order).map(six_name),
     }
 }
 
-fn first_result(seat: &Seat) -> usize {
-    4 * usize::from(seat.number - 1)
+/// The All-Six hand of a seat; none where All-Six isn't offered.
+pub(crate) fn six_cards(round: &Finished, order: usize) -> Option<[u8; 6]> {
+    let deal = Deal::new(round.seats.len(), round.table.offers_all_six());
+    let [a, b, c] = deal.community();
+    let [e, f] = deal.pocket(order);
+    let places = [a, b, c, deal.all_six()?, e, f];
+    Some(places.map(|place| round.deck[place]))
+}
+
+/// The place of a seat's first result.
+pub(crate) fn first_result(seat: &Seat) -> usize {
+    RESULTS_A_SEAT * usize::from(seat.number - 1)
 }

@@ -2,15 +2,16 @@
 
 use std::fmt::Write;
 
+use crate::cards::suit;
 use crate::generate::draft::{FOLDS, POOLS};
 use crate::generate::stacks::STACKS;
 use crate::generate::{Generator, Made};
 use crate::held::{Held, Step};
 use crate::held_file;
-use crate::names::FiveName;
+use crate::names::{five_name, five_of_six, six_name, FiveName, SixName};
 use crate::pool::maximum;
 use crate::reading::{read, Finished, Seat, STREETS};
-use crate::settle::{names_of_seat, settle_round, Paid, SeatNames};
+use crate::settle::{first_result, names_of_seat, settle_round, six_cards, Paid, SeatNames};
 
 const FIVE_NAMES: [&str; 11] = [
     "royal flush",
@@ -52,6 +53,74 @@ const LO_BALL_NAMES: [&str; 9] = [
     "ace high",
     "nothing",
 ];
+const SIX_NAMES: [&str; 13] = [
+    "six-card royal of diamonds",
+    "six-card royal, other",
+    "royal flush",
+    "straight flush",
+    "four of a kind",
+    "full house",
+    "flush",
+    "straight",
+    "three of a kind",
+    "two pair",
+    "pair of jacks to aces",
+    "pair of sixes to tens",
+    "other",
+];
+const SUIT_NAMES: [&str; 4] = ["clubs", "diamonds", "hearts", "spades"];
+/// The places of an All-Six hand.
+const SIX_PLACES: [&str; 6] = [
+    "community card 1",
+    "community card 2",
+    "community card 3",
+    "the All-Six card",
+    "the seat's first",
+    "the seat's second",
+];
+/// The names that win on All-Six by five cards.
+const WON_BY_FIVE: [FiveName; 7] = [
+    FiveName::RoyalFlush,
+    FiveName::StraightFlush,
+    FiveName::FourOfAKind,
+    FiveName::FullHouse,
+    FiveName::Flush,
+    FiveName::Straight,
+    FiveName::ThreeOfAKind,
+];
+/// Those of them that each of the five cards is needed for.
+const WHOLE_FIVE: [FiveName; 5] = [
+    FiveName::RoyalFlush,
+    FiveName::StraightFlush,
+    FiveName::FullHouse,
+    FiveName::Flush,
+    FiveName::Straight,
+];
+const ALL_SIX_ROUNDS: [&str; 12] = [
+    "not offered",
+    "offered, nobody wagers",
+    "offered, some wager",
+    "offered, everybody wagers",
+    "not offered, pool within the maximum",
+    "not offered, pool at the maximum",
+    "not offered, pool above the maximum",
+    "offered, pool within the maximum",
+    "offered, pool at the maximum",
+    "offered, pool above the maximum",
+    "a win at odds above 50, pool empty",
+    "a win at odds above 50, pool not empty",
+];
+const ALL_SIX_SEATS: [&str; 9] = [
+    "wager won, folded on street one",
+    "wager won, folded on street two",
+    "wager won, folded on street three",
+    "wager lost, folded on street one",
+    "wager lost, folded on street two",
+    "wager lost, folded on street three",
+    "wager won, base lost, not folded",
+    "wager won, base not lost",
+    "wager lost, base not lost",
+];
 const POOL_LEVELS: [&str; 4] = [
     "empty",
     "within the maximum",
@@ -65,7 +134,7 @@ const OTHERS: [&str; 5] = [
     "card 0 in the last deck part",
     "all fold on street one and a side wager wins",
 ];
-const WAGERS: [&str; 10] = [
+const WAGERS: [&str; 14] = [
     "ante the smallest",
     "ante between",
     "ante the largest",
@@ -76,6 +145,10 @@ const WAGERS: [&str; 10] = [
     "raises of 3 antes in all",
     "raises of 4 to 8 antes in all",
     "raises of 9 antes in all",
+    "All-Six wager 0, offered",
+    "All-Six wager 1",
+    "All-Six wager between",
+    "All-Six wager the largest",
 ];
 const WRITTEN: [&str; 9] = [
     "written",
@@ -125,6 +198,16 @@ impl Section {
         Section::new(title, names.iter().flat_map(with_table))
     }
 
+    /// A row for each name with each place of an All-Six hand.
+    fn of_places(title: &'static str, names: &[FiveName]) -> Section {
+        let with_place = |name: &FiveName| -> Vec<String> {
+            let name = FIVE_NAMES[*name as usize];
+            let label = |place: &&str| format!("{name}, without {place}");
+            SIX_PLACES.iter().map(label).collect()
+        };
+        Section::new(title, names.iter().flat_map(with_place))
+    }
+
     fn count(&mut self, row: usize) {
         if let Some((_, count)) = self.rows.get_mut(row) {
             *count += 1;
@@ -154,6 +237,15 @@ pub struct Tally {
     pub board: Section,
     pub pocket: Section,
     pub lo_ball: Section,
+    pub all_six: Section,
+    pub all_six_tables: Section,
+    pub all_six_rounds: Section,
+    pub all_six_seats: Section,
+    pub six_card_royals: Section,
+    /// The names that a hand keeps without the card at a place.
+    pub kept: Section,
+    /// Those that it keeps without that card alone.
+    pub kept_alone: Section,
     pub taken: Section,
     pub written: Section,
     pub stages: Section,
@@ -204,6 +296,19 @@ impl Tally {
             board: Section::of_tables("board names, wager placed", &BOARD_NAMES, 4),
             pocket: Section::of_tables("pocket names, wager placed", &POCKET_NAMES, 3),
             lo_ball: Section::of_tables("Lo Ball names, wager placed", &LO_BALL_NAMES, 2),
+            all_six: Section::of_tables("All-Six names, wager placed", &SIX_NAMES, 5),
+            all_six_tables: Section::new("All-Six tables, 0 not offered", 0..6),
+            all_six_rounds: Section::new("All-Six by rounds", ALL_SIX_ROUNDS),
+            all_six_seats: Section::new("All-Six by seats, wager placed", ALL_SIX_SEATS),
+            six_card_royals: Section::new("six-card royals, wager placed", SUIT_NAMES),
+            kept: Section::of_places(
+                "All-Six names kept without a card, wager placed",
+                &WON_BY_FIVE,
+            ),
+            kept_alone: Section::of_places(
+                "All-Six names kept without that card alone, wager placed",
+                &WHOLE_FIVE,
+            ),
             taken: Section::new(
                 "answers of the held file to the last record",
                 taken.chain(refused),
@@ -213,7 +318,7 @@ impl Tally {
         }
     }
 
-    pub fn sections(&self) -> [&Section; 20] {
+    pub fn sections(&self) -> [&Section; 27] {
         [
             &self.answers,
             &self.taken,
@@ -233,6 +338,13 @@ impl Tally {
             &self.board,
             &self.pocket,
             &self.lo_ball,
+            &self.all_six,
+            &self.all_six_tables,
+            &self.all_six_rounds,
+            &self.all_six_seats,
+            &self.six_card_royals,
+            &self.kept,
+            &self.kept_alone,
             &self.patterns,
             &self.ways,
         ]
@@ -308,6 +420,7 @@ impl Tally {
             .count(place_between(25, round.table.largest.into(), 100));
         self.folds.count(fold_pattern(&round.seats));
         let folded_pooled = self.round_seats(round);
+        self.all_six_round(round, &amounts, pool_level(full, most));
         let all_at_once = round
             .seats
             .iter()
@@ -340,6 +453,65 @@ impl Tally {
         folded_pooled
     }
 
+    fn all_six_round(&mut self, round: &Finished, amounts: &[u64], level: usize) {
+        let offered = round.table.offers_all_six();
+        self.all_six_tables.count(round.table.all_six.into());
+        let wagers = round.seats.iter().filter(|seat| seat.all_six > 0);
+        self.all_six_rounds.count(match wagers.count() {
+            _ if !offered => 0,
+            0 => 1,
+            count if count < round.seats.len() => 2,
+            _ => 3,
+        });
+        if level > 0 {
+            let first = if offered { 7 } else { 4 };
+            self.all_six_rounds.count(first + level - 1);
+        }
+        let mut above_50 = false;
+        let seats = round.seats.iter().enumerate();
+        for (order, seat) in seats.filter(|(_, seat)| seat.all_six > 0) {
+            let results = &amounts[first_result(seat)..];
+            above_50 |= results[4] > 100 * 51 * u64::from(seat.all_six);
+            self.all_six_seat(seat, results);
+            if let Some(cards) = six_cards(round, order) {
+                self.six_hand(cards);
+            }
+        }
+        if above_50 {
+            self.all_six_rounds.count(10 + usize::from(level > 0));
+        }
+    }
+
+    fn all_six_seat(&mut self, seat: &Seat, results: &[u64]) {
+        let won = results[4] > 0;
+        let street = usize::from(seat.chosen) - 1;
+        match (won, seat.folded, results[0] > 0) {
+            (true, true, _) => self.all_six_seats.count(street),
+            (false, true, _) => self.all_six_seats.count(3 + street),
+            (true, false, false) => self.all_six_seats.count(6),
+            (true, false, true) => self.all_six_seats.count(7),
+            (false, false, true) => self.all_six_seats.count(8),
+            (false, false, false) => (),
+        }
+    }
+
+    fn six_hand(&mut self, cards: [u8; 6]) {
+        let SixName::Five(name) = six_name(cards) else {
+            self.six_card_royals.count(suit(cards[0]).into());
+            return;
+        };
+        let keeps = |&place: &usize| five_name(five_of_six(cards, place)) == name;
+        let kept: Vec<usize> = (0..6).filter(keeps).collect();
+        let row = |names: &[FiveName]| names.iter().position(|&other| other == name);
+        if let Some(row) = row(&WON_BY_FIVE) {
+            kept.iter()
+                .for_each(|place| self.kept.count(6 * row + place));
+        }
+        if let (Some(row), [place]) = (row(&WHOLE_FIVE), kept.as_slice()) {
+            self.kept_alone.count(6 * row + place);
+        }
+    }
+
     fn names(&mut self, round: &Finished, seat: &Seat, names: &SeatNames) {
         let row = |name: usize, tables: usize, table: u8| name * tables + usize::from(table) - 1;
         let table = &round.table;
@@ -356,6 +528,9 @@ impl Tally {
         if seat.lo_ball > 0 {
             self.lo_ball
                 .count(row(names.lo_ball as usize, 2, table.lo_ball));
+        }
+        if let Some(six) = names.six.filter(|_| seat.all_six > 0) {
+            self.all_six.count(row(six.place(), 5, table.all_six));
         }
     }
 
@@ -375,13 +550,21 @@ impl Tally {
         if !seat.folded {
             self.wagers.count(7 + place_between(3, seat.raised(), 9));
         }
+        if round.table.offers_all_six() {
+            self.wagers.count(match seat.all_six {
+                0 => 10,
+                1 => 11,
+                wager if wager == largest => 13,
+                _ => 12,
+            });
+        }
     }
 
     pub fn printed(&self) -> String {
         let mut text = format!("files {}, bytes {}", self.files, self.bytes);
         let average = self.bytes as f64 / self.files.max(1) as f64;
         let _ = writeln!(text, ", bytes a file {average:.1}");
-        for section in &self.sections()[..19] {
+        for section in &self.sections()[..26] {
             print_section(&mut text, section);
         }
         let _ = writeln!(text, "\n{}", self.ways.title);

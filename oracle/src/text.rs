@@ -10,6 +10,14 @@
 //! bytes 05 00 ff
 //! ```
 //!
+//! A table that offers All-Six ends in `six` and its pay table, and a seat at
+//! such a table in `six` and its wager; where that is left out it is 0.
+//!
+//! ```text
+//! table 5 100 base 2 lo 1 board 1 pocket 1 six 5
+//! seat 1 ante 100 board 5 pocket 5 lo 0 six 10
+//! ```
+//!
 //! `#` begins a comment. `bytes` gives a record, or the odd bytes at the end,
 //! in hex where no other line can say it exactly.
 
@@ -17,10 +25,20 @@ use crate::cards;
 use crate::reading::{two_bytes, CHOICE, DECK_PART, RECORD, SEAT, TABLE};
 
 /// The text of a file. Packing it gives the same file back.
+///
+/// A seat has its All-Six wager written where the table record above it offers
+/// All-Six, and where the wager isn't 0.
 pub fn show(file: &[u8]) -> String {
-    file.chunks(RECORD)
-        .map(|part| line_of(part) + "\n")
-        .collect()
+    let mut text = String::new();
+    let mut offered = false;
+    for part in file.chunks(RECORD) {
+        if let [TABLE, _, _, _, _, _, _, six, ..] = *part {
+            offered = six != 0;
+        }
+        text += &line_of(part, offered);
+        text.push('\n');
+    }
+    text
 }
 
 /// The file of a text, or what is wrong and in which line, from 1.
@@ -42,8 +60,8 @@ pub fn pack(text: &str) -> Result<Vec<u8>, String> {
 }
 
 /// The readable line if packing it gives the part back, else its bytes.
-fn line_of(part: &[u8]) -> String {
-    match readable(part) {
+fn line_of(part: &[u8], offered: bool) -> String {
+    match readable(part, offered) {
         Some(line) if part_of(&line).as_deref() == Ok(part) => line,
         _ => bytes_line(part),
     }
@@ -56,11 +74,11 @@ fn bytes_line(part: &[u8]) -> String {
 
 /// A readable line for the named bytes of a whole record; none where it has
 /// no readable form.
-fn readable(part: &[u8]) -> Option<String> {
+fn readable(part: &[u8], offered: bool) -> Option<String> {
     let record: &[u8; RECORD] = part.try_into().ok()?;
     match record[0] {
         TABLE => Some(table_line(record)),
-        SEAT => Some(seat_line(record)),
+        SEAT => Some(seat_line(record, offered)),
         DECK_PART => deck_line(record),
         CHOICE => Some(choice_line(record)),
         _ => None,
@@ -68,14 +86,25 @@ fn readable(part: &[u8]) -> Option<String> {
 }
 
 fn table_line(record: &[u8; RECORD]) -> String {
-    let [_, smallest, largest, base, lo, board, pocket, ..] = record;
-    format!("table {smallest} {largest} base {base} lo {lo} board {board} pocket {pocket}")
+    let [_, smallest, largest, base, lo, board, pocket, six, ..] = *record;
+    let line =
+        format!("table {smallest} {largest} base {base} lo {lo} board {board} pocket {pocket}");
+    with_six(line, six.into(), six != 0)
 }
 
-fn seat_line(record: &[u8; RECORD]) -> String {
-    let [ante, board, pocket, lo] = [2, 4, 6, 8].map(|at| two_bytes(record, at));
+fn seat_line(record: &[u8; RECORD], offered: bool) -> String {
+    let [ante, board, pocket, lo, six] = [2, 4, 6, 8, 10].map(|at| two_bytes(record, at));
     let seat = record[1];
-    format!("seat {seat} ante {ante} board {board} pocket {pocket} lo {lo}")
+    let line = format!("seat {seat} ante {ante} board {board} pocket {pocket} lo {lo}");
+    with_six(line, six, offered || six != 0)
+}
+
+fn with_six(line: String, six: u16, written: bool) -> String {
+    if written {
+        format!("{line} six {six}")
+    } else {
+        line
+    }
 }
 
 fn deck_line(record: &[u8; RECORD]) -> Option<String> {
@@ -99,17 +128,13 @@ fn choice_line(record: &[u8; RECORD]) -> String {
 fn part_of(line: &str) -> Result<Vec<u8>, String> {
     let words: Vec<&str> = line.split_whitespace().collect();
     match words.as_slice() {
-        ["table", smallest, largest, "base", base, "lo", lo, "board", board, "pocket", pocket] => {
-            record_of_bytes(TABLE, &[smallest, largest, base, lo, board, pocket])
-        }
-        ["seat", seat, "ante", ante, "board", board, "pocket", pocket, "lo", lo] => {
-            seat_record(seat, &[ante, board, pocket, lo])
-        }
+        ["table", numbers @ ..] => table_record(numbers),
+        ["seat", numbers @ ..] => seat_record(numbers),
         ["deck", part, cards @ ..] => deck_record(part, cards),
         ["choice", seat, "fold"] => record_of_bytes(CHOICE, &[seat, "0"]),
         ["choice", seat, "raise" | "number", number] => record_of_bytes(CHOICE, &[seat, number]),
         ["bytes", bytes @ ..] => bytes_of(bytes),
-        [kind @ ("table" | "seat" | "choice"), ..] => Err(format!("{kind}: see {}", form(kind))),
+        ["choice", ..] => Err(see("choice")),
         [word, ..] => Err(format!(
             "'{word}' is none of table, seat, deck, choice, bytes"
         )),
@@ -117,12 +142,30 @@ fn part_of(line: &str) -> Result<Vec<u8>, String> {
     }
 }
 
-fn form(kind: &str) -> &'static str {
-    match kind {
-        "table" => "'table 5 100 base 2 lo 1 board 1 pocket 1'",
-        "seat" => "'seat 1 ante 100 board 5 pocket 5 lo 0'",
+fn see(kind: &str) -> String {
+    let form = match kind {
+        "table" => "'table 5 100 base 2 lo 1 board 1 pocket 1', which may end in 'six 5'",
+        "seat" => "'seat 1 ante 100 board 5 pocket 5 lo 0', which may end in 'six 10'",
         _ => "'choice 1 raise 3', 'choice 1 fold' or 'choice 1 number 7'",
+    };
+    format!("{kind}: see {form}")
+}
+
+/// The words before `six N` at the end, and N; 0 where that is left out.
+fn split_six<'a>(words: &'a [&'a str]) -> (&'a [&'a str], &'a str) {
+    match words {
+        [before @ .., "six", six] => (before, six),
+        _ => (words, "0"),
     }
+}
+
+fn table_record(words: &[&str]) -> Result<Vec<u8>, String> {
+    let (words, six) = split_six(words);
+    let [smallest, largest, "base", base, "lo", lo, "board", board, "pocket", pocket] = words
+    else {
+        return Err(see("table"));
+    };
+    record_of_bytes(TABLE, &[smallest, largest, base, lo, board, pocket, six])
 }
 
 fn record_of_bytes(kind: u8, words: &[&str]) -> Result<Vec<u8>, String> {
@@ -134,9 +177,13 @@ fn record_of_bytes(kind: u8, words: &[&str]) -> Result<Vec<u8>, String> {
     Ok(record)
 }
 
-fn seat_record(seat: &str, wagers: &[&str]) -> Result<Vec<u8>, String> {
+fn seat_record(words: &[&str]) -> Result<Vec<u8>, String> {
+    let (words, six) = split_six(words);
+    let [seat, "ante", ante, "board", board, "pocket", pocket, "lo", lo] = words else {
+        return Err(see("seat"));
+    };
     let mut record = vec![SEAT, byte_of(seat)?];
-    for word in wagers {
+    for word in [ante, board, pocket, lo, &six] {
         let wager: u16 = word
             .parse()
             .map_err(|_| format!("'{word}' is no number of 0 to 65535"))?;

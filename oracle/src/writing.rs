@@ -35,7 +35,8 @@ pub fn rewritten(file: &[u8]) -> Result<Vec<u8>, Refusal> {
     })
 }
 
-/// Of the table's numbers none is 0, and "parts not yet filled are zero".
+/// Of the table's numbers only that of All-Six may be 0, and "parts not yet
+/// filled are zero".
 fn has_table(held: &Held) -> bool {
-    held.table != [0; 6]
+    held.table != [0; 7]
 }

@@ -1,6 +1,7 @@
 //! The generator: what it means is what the settler finds, and everything it
 //! is there for comes.
 
+use oracle::generate::stacks::{in_turn, STACKS};
 use oracle::generate::ways::Expected;
 use oracle::generate::Generator;
 use oracle::settle::{settle, Answer};
@@ -70,6 +71,51 @@ fn each_stacked_deck_comes_often() {
     let tally = Tally::of(5_000, 1);
     for (name, count) in &tally.stacks.rows {
         assert!(*count >= 20, "{name}: {count}");
+    }
+}
+
+#[test]
+fn each_way_of_damage_comes_more_than_once() {
+    let tally = Tally::of(5_000, 1);
+    for (name, count) in &tally.ways.rows {
+        assert!(*count >= 2, "{name}: {count}");
+    }
+}
+
+/// Offered and not, each kind of round and seat comes; each six-card royal; each
+/// name with each table, and without each card of the six.
+#[test]
+fn each_thing_of_all_six_comes_often() {
+    let tally = Tally::of(5_000, 1);
+    let often = [
+        &tally.all_six_tables,
+        &tally.all_six_rounds,
+        &tally.all_six_seats,
+        &tally.six_card_royals,
+    ];
+    let each = [&tally.all_six, &tally.kept, &tally.kept_alone];
+    for (sections, least) in [(&often[..], 20), (&each, 3)] {
+        for section in sections {
+            for (label, count) in &section.rows {
+                assert!(*count >= least, "{}: {label}: {count}", section.title);
+            }
+        }
+    }
+}
+
+/// Stacks come in turn: a stretch as long as all weights together has each as
+/// often as its weight says.
+#[test]
+fn each_stack_comes_in_its_turn() {
+    let total: usize = STACKS.iter().map(|stack| stack.weight).sum();
+    assert!(total % 2 != 0 && total % 5 != 0, "{total}");
+    for first in [0, 1, 1_000_000, u64::MAX - total as u64] {
+        let mut counts = vec![0; STACKS.len()];
+        for turn in 0..total as u64 {
+            counts[in_turn(first + turn)] += 1;
+        }
+        let weights: Vec<usize> = STACKS.iter().map(|stack| stack.weight).collect();
+        assert_eq!(counts, weights);
     }
 }
 

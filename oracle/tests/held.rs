@@ -85,16 +85,17 @@ fn settling_a_file_agrees_with_feeding_its_records() {
 fn may_be_held(held: &Held) -> bool {
     let zero = |bytes: &[u8]| bytes.iter().all(|&byte| byte == 0);
     let bytes = held.bytes();
-    if zero(&bytes[..6]) {
+    if zero(&bytes[..7]) {
         return zero(&bytes);
     }
-    let [smallest, largest, base, lo_ball, board, pocket] = held.table;
+    let [smallest, largest, base, lo_ball, board, pocket, all_six] = held.table;
     let limits = (5..=15).contains(&smallest) && (25..=100).contains(&largest);
     let tables = [(base, 5), (lo_ball, 2), (board, 4), (pocket, 3)];
     if !limits
         || tables
             .iter()
             .any(|&(number, last)| number < 1 || number > last)
+        || all_six > 5
     {
         return false;
     }
@@ -106,11 +107,14 @@ fn may_be_held(held: &Held) -> bool {
         } else {
             u16::from(largest)
         };
+        let most_all_six = if all_six == 0 { 0 } else { most };
         let within = (u16::from(smallest)..=u16::from(largest)).contains(&ante_of(seat));
-        (ante_of(seat) == 0 || within) && sides.iter().all(|&side| side <= most)
+        (ante_of(seat) == 0 || within)
+            && sides.iter().all(|&side| side <= most)
+            && held.wagers[4][seat] <= most_all_six
     };
     let playing: Vec<usize> = (0..7).filter(|&seat| ante_of(seat) > 0).collect();
-    if !(0..7).all(seat_stands) || (playing.is_empty() && !zero(&bytes[62..])) || held.parts > 4 {
+    if !(0..7).all(seat_stands) || (playing.is_empty() && !zero(&bytes[77..])) || held.parts > 4 {
         return false;
     }
     let (read, unread) = held.cards.split_at(13 * usize::from(held.parts));
@@ -119,7 +123,7 @@ fn may_be_held(held: &Held) -> bool {
         return false;
     }
     if held.parts < 4 {
-        return zero(&bytes[115..]);
+        return zero(&bytes[130..]);
     }
     choices_stand(held, &playing)
 }
@@ -173,12 +177,12 @@ fn the_second_opinion_agrees_on_rounds_changed_by_chance() {
 }
 
 /// One to three bytes changed, most of them to small numbers.
-fn some_changed(rng: &mut Prng, mut bytes: [u8; 143]) -> [u8; 143] {
+fn some_changed(rng: &mut Prng, mut bytes: [u8; 158]) -> [u8; 158] {
     for _ in 0..rng.between(1, 3) {
         let at = match rng.below(4) {
-            0 => rng.below(62),
-            1 => rng.between(62, 114),
-            _ => rng.between(115, 142),
+            0 => rng.below(77),
+            1 => rng.between(77, 129),
+            _ => rng.between(130, 157),
         };
         bytes[at] = match rng.below(8) {
             0 => rng.byte(),

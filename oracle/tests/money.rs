@@ -2,7 +2,7 @@
 
 use oracle::answer::lines;
 use oracle::paytables::Pays::{self, Loss, Push, ThreeHalves, To};
-use oracle::paytables::{BASE, BOARD, LO_BALL, POCKET};
+use oracle::paytables::{ALL_SIX, BASE, BOARD, LO_BALL, POCKET};
 use oracle::pool::share;
 use oracle::settle::{refused_part, settle, Answer, Paid};
 use oracle::text::pack;
@@ -55,6 +55,22 @@ fn side_odds_of_document_01() {
     }
 }
 
+/// The columns of Appendix E; two pair and below are its "Other".
+#[test]
+fn all_six_odds_of_appendix_e() {
+    let columns = [
+        [1_000, 1_000, 1_000, 200, 50, 25, 20, 10, 5],
+        [1_000, 1_000, 1_000, 200, 50, 25, 15, 10, 5],
+        [1_000, 1_000, 1_000, 200, 100, 20, 15, 9, 8],
+        [1_000, 1_000, 1_000, 200, 100, 20, 15, 10, 7],
+        [200_000, 20_000, 1_000, 200, 50, 20, 15, 10, 5],
+    ];
+    for (table, row) in columns.iter().enumerate() {
+        let rows = [odds(row), vec![Loss; 4]].concat();
+        assert_eq!(column(&ALL_SIX, table + 1), rows, "All-Six {}", table + 1);
+    }
+}
+
 #[test]
 fn p14_and_other_shares() {
     let mut shares = [0; 3];
@@ -92,10 +108,11 @@ fn sharing_refusals() {
 fn the_whole_round_of_document_01() {
     let file = pack(include_str!("round01.txt")).unwrap();
     assert_eq!(file.len(), 13 * 16);
-    let printed = "1 2183300 20500 10500 0\n2 516600 0 0 0\npool 600000 24999\n";
+    let printed = "1 2183300 20500 10500 0 0\n2 516600 0 0 0 0\npool 600000 24999\n";
     assert_eq!(lines(&file), printed);
-    let mut amounts = [0; 28];
-    amounts[..8].copy_from_slice(&[2_183_300, 20_500, 10_500, 0, 516_600, 0, 0, 0]);
+    let mut amounts = [0; 35];
+    amounts[..4].copy_from_slice(&[2_183_300, 20_500, 10_500, 0]);
+    amounts[5] = 516_600;
     let answer = Answer::Paid(Paid {
         amounts,
         full: 600_000,
@@ -133,12 +150,12 @@ fn half_dollars_and_pushes() {
     let choices = "choice 7 raise 1\nchoice 7 raise 2\nchoice 7 raise 3";
     let two_pair = round(&head, "2c 3c 2d 3d 9h", choices);
     // Base wager 5 × 7 = 35, and 35 × 3/2 = 52.50 besides.
-    assert_eq!(lines(&two_pair), "7 8750 0 0 0\npool 0 0\n");
+    assert_eq!(lines(&two_pair), "7 8750 0 0 0 0\npool 0 0\n");
     let pair_of_tens = round(&head, "Tc Td 2d 3d 9d", choices);
     // A push; a board flush at 4; a pair in the pocket at 4.
-    assert_eq!(lines(&pair_of_tens), "7 3500 500 500 0\npool 0 0\n");
+    assert_eq!(lines(&pair_of_tens), "7 3500 500 500 0 0\npool 0 0\n");
     let queen_high = round(&head, "2c Qd 4d 7s 9d", choices);
-    assert_eq!(lines(&queen_high), "7 0 0 0 100\npool 0 0\n");
+    assert_eq!(lines(&queen_high), "7 0 0 0 100 0\npool 0 0\n");
 }
 
 #[test]
@@ -146,9 +163,9 @@ fn a_fold_keeps_the_side_wagers() {
     let head = ONE.to_string() + "seat 3 ante 5 board 2 pocket 100 lo 1";
     // A royal on the board at 40, the seat folded at once.
     let folded = round(&head, "Th Jh Qh Kh Ah", "choice 3 fold");
-    assert_eq!(lines(&folded), "3 0 8200 0 0\npool 0 0\n");
+    assert_eq!(lines(&folded), "3 0 8200 0 0 0\npool 0 0\n");
     let seven_high = round(&head, "2c 3d 4h 5s 7c", "choice 3 raise 1\nchoice 3 fold");
-    assert_eq!(lines(&seven_high), "3 0 0 0 10100\npool 0 0\n");
+    assert_eq!(lines(&seven_high), "3 0 0 0 10100 0\npool 0 0\n");
 }
 
 #[test]
@@ -156,10 +173,10 @@ fn the_pool_at_its_maximum_and_just_above() {
     let head = ONE.to_string() + "seat 1 ante 5 board 0 pocket 0 lo 0";
     let raises = "choice 1 raise 3\nchoice 1 raise 3\nchoice 1 raise 3";
     let at = round(&head, "Th Jh Qh Kh Ah", raises);
-    assert_eq!(lines(&at), "1 2505000 0 0 0\npool 25000 25000\n");
+    assert_eq!(lines(&at), "1 2505000 0 0 0 0\npool 25000 25000\n");
     let head = ONE.to_string() + "seat 1 ante 6 board 0 pocket 0 lo 0";
     let above = round(&head, "Th Jh Qh Kh Ah", raises);
-    assert_eq!(lines(&above), "1 2506000 0 0 0\npool 30000 25000\n");
+    assert_eq!(lines(&above), "1 2506000 0 0 0 0\npool 30000 25000\n");
 }
 
 #[test]
@@ -168,7 +185,10 @@ fn a_folded_royal_is_not_in_the_pool() {
         + "seat 2 ante 100 board 0 pocket 0 lo 0\nseat 6 ante 7 board 0 pocket 0 lo 0";
     let choices = "choice 6 raise 1\nchoice 2 fold\nchoice 6 raise 1\nchoice 6 raise 1";
     let file = round(&head, "Kh Ah 8h 9h Th Jh Qh", choices);
-    assert_eq!(lines(&file), "2 0 0 0 0\n6 282800 0 0 0\npool 2800 2800\n");
+    assert_eq!(
+        lines(&file),
+        "2 0 0 0 0 0\n6 282800 0 0 0 0\npool 2800 2800\n"
+    );
 }
 
 #[test]
@@ -176,7 +196,7 @@ fn a_board_royal_at_50_and_a_lo_ball_at_100_are_not_pooled() {
     let head = "table 5 100 base 1 lo 1 board 1 pocket 1\nseat 1 ante 5 board 100 pocket 0 lo 100";
     let raises = "choice 1 raise 1\nchoice 1 raise 1\nchoice 1 raise 1";
     let royal = round(head, "2c 3d Qh Kh Ah", raises);
-    assert_eq!(lines(&royal), "1 0 510000 0 0\npool 0 0\n");
+    assert_eq!(lines(&royal), "1 0 510000 0 0 0\npool 0 0\n");
     let low = round(head, "2c 3d 4h 5s 7h", raises);
-    assert_eq!(lines(&low), "1 0 0 0 1010000\npool 0 0\n");
+    assert_eq!(lines(&low), "1 0 0 0 1010000 0\npool 0 0\n");
 }

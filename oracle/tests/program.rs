@@ -50,10 +50,38 @@ fn stream_of(files: &[&[u8]]) -> Vec<u8> {
 
 #[test]
 fn settles_one_file() {
-    let lines = "1 2183300 20500 10500 0\n2 516600 0 0 0\npool 600000 24999\n";
+    let lines = "1 2183300 20500 10500 0 0\n2 516600 0 0 0 0\npool 600000 24999\n";
     assert_eq!(printed(&["settle"], &round()), lines);
     assert_eq!(printed(&["settle"], &[]), "refused 16 at 0\n");
     assert_eq!(printed(&["settle"], &[1; 33]), "refused 2 at 2\n");
+}
+
+/// Seat 2: a royal flush on 20 × 10 dollars, 100,000 of which 25,000 are paid; a
+/// straight flush on the board at 40; A-K suited at 20; 200,000 on 25. Seat 5
+/// folded: queen high is a push; 200 on 40. Seat 7: a pair of nines, a push, on
+/// 10 × 5; the board; a pair at 4; 5 on 3.
+#[test]
+fn settles_a_file_with_all_six() {
+    let file = pack(include_str!("all_six.txt")).unwrap();
+    let lines = "1 0 0 0 0 0\n2 2520000 20500 21000 0 500002500\n5 0 0 0 1000 804000\n\
+                 7 5000 4100 1000 0 1800\npool 100000 25000\n";
+    assert_eq!(printed(&["settle"], &file), lines);
+    let two_absent = " 0".repeat(10);
+    let line = format!(
+        "paid 0 0 0 0 0 2520000 20500 21000 0 500002500{two_absent} 0 0 0 1000 804000 \
+         0 0 0 0 0 5000 4100 1000 0 1800 pool 100000 25000 part 288 take finished written 9 "
+    );
+    let answer = printed(&["stream"], &stream_of(&[&file]));
+    assert!(answer.starts_with(&line), "{answer}");
+    let shown = printed(&["show"], &file);
+    assert!(shown.starts_with("table 5 100 base 3 lo 2 board 2 pocket 3 six 5\nseat 1 "));
+    assert!(shown.contains("\nseat 1 ante 5 board 0 pocket 0 lo 0 six 0\n"));
+    let mut not_offered = file;
+    not_offered[7] = 0;
+    assert_eq!(printed(&["settle"], &not_offered), "refused 9 at 2\n");
+    let seat = "refused 9 at 2 part 32 0202140005000a000000190000000000 take refused 17 ";
+    let answer = printed(&["stream"], &stream_of(&[&not_offered]));
+    assert!(answer.starts_with(seat), "{answer}");
 }
 
 #[test]
@@ -92,9 +120,9 @@ fn answers_a_stream() {
     let mut bad = round();
     bad[1] = 4;
     let stream = stream_of(&[&round(), &[], &bad, &[0xab, 0x0c], &round()[..32]]);
-    let zeros = " 0".repeat(20);
+    let zeros = " 0".repeat(25);
     let paid = format!(
-        "paid 2183300 20500 10500 0 516600 0 0 0{zeros} pool 600000 24999 part 208 \
+        "paid 2183300 20500 10500 0 0 516600 0 0 0 0{zeros} pool 600000 24999 part 208 \
          take finished written 13"
     );
     let lines = [
@@ -211,18 +239,18 @@ fn numbers_that_are_too_large() {
 fn answers_held_rounds() {
     let stream = oracle(&["handmade"], &[]).stdout;
     let answers = printed(&["hold"], &stream);
-    assert_eq!(stream.len() % 159, 0);
-    assert_eq!(answers.lines().count(), stream.len() / 159);
+    assert_eq!(stream.len() % 174, 0);
+    assert_eq!(answers.lines().count(), stream.len() / 174);
     let lines = "take next settle refused 16 write refused 16\n\
                  take refused 17 settle refused 17 write refused 17\n";
     assert!(
         answers.starts_with(lines),
         "the fresh round, then one changed"
     );
-    let mut fresh = [0; 159];
-    fresh[143..].copy_from_slice(&round()[..16]);
+    let mut fresh = [0; 174];
+    fresh[158..].copy_from_slice(&round()[..16]);
     assert_eq!(printed(&["hold"], &fresh), &lines[..45]);
-    fresh[143] = 2;
+    fresh[158] = 2;
     let line = "take refused 3 settle refused 16 write refused 16\n";
     assert_eq!(printed(&["hold"], &fresh), line);
     assert_eq!(printed(&["hold"], &[]), "");
@@ -231,11 +259,11 @@ fn answers_held_rounds() {
 #[test]
 fn held_rounds_that_end_inside_an_item() {
     let stream = oracle(&["handmade"], &[]).stdout;
-    for length in [1, 142, 143, 144, 158, 160, 159 + 143, 159 + 158] {
+    for length in [1, 157, 158, 159, 173, 175, 174 + 158, 174 + 173] {
         let output = oracle(&["hold"], &stream[..length]);
         let answers = String::from_utf8(output.stdout).unwrap();
         assert_eq!(output.status.code(), Some(1), "{length}");
-        assert_eq!(answers.lines().count(), length / 159);
+        assert_eq!(answers.lines().count(), length / 174);
         let error = String::from_utf8(output.stderr).unwrap();
         assert_eq!(error, "oracle: the stream ends inside an item\n");
     }

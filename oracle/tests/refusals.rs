@@ -94,7 +94,7 @@ fn check_part(way: &str, number: u8, place: usize, file: &[u8]) {
 fn the_round_is_accepted() {
     // Seat 2 holds 2d 2h, seat 4 2s 3c, seat 5 3d 3h; the board is 3s 4c 4d.
     // Seat 4 has two pair on 50 × (1 + 3 + 1 + 2) = 350 dollars at 3/2.
-    let printed = "2 0 0 30000 0\n4 87500 10000 0 0\n5 0 0 0 0\npool 0 0\n";
+    let printed = "2 0 0 30000 0 0\n4 87500 10000 0 0 0\n5 0 0 0 0 0\npool 0 0\n";
     assert_eq!(lines(&edited(&[])), printed);
 }
 
@@ -176,9 +176,9 @@ fn refusal_3_order() {
 #[test]
 fn refusal_4_each_byte() {
     let kinds = [
-        (0, 7..16),
-        (1, 10..16),
-        (3, 10..16),
+        (0, 8..16),
+        (1, 12..16),
+        (3, 12..16),
         (4, 15..16),
         (7, 15..16),
         (8, 3..16),
@@ -263,6 +263,73 @@ fn refusals_8_and_9() {
     check(REFUSALS_8_AND_9);
 }
 
+const OFFERED: &str = "table 10 50 base 1 lo 1 board 1 pocket 1 six 5";
+
+/// "6 for table byte 7 above 5."
+#[test]
+fn the_all_six_table() {
+    for byte in 0..=5 {
+        let printed = lines(&edited(&[Byte(0, 7, byte)]));
+        assert!(printed.ends_with("pool 0 0\n"), "{byte}: {printed}");
+    }
+    for byte in 6..=255 {
+        assert_eq!(lines(&edited(&[Byte(0, 7, byte)])), "refused 6 at 0\n");
+    }
+}
+
+/// "9 also for a wager where it isn't offered": "also above the largest ante".
+#[rustfmt::skip]
+const ALL_SIX_WAGERS: &[Case] = &[
+    ("1 where it isn't offered", 9, 2, &[Set(2, "seat 4 ante 50 board 50 pocket 0 lo 0 six 1")]),
+    ("the largest ante where it isn't offered", 9, 1, &[Set(1, "seat 2 ante 10 board 0 pocket 50 lo 1 six 50")]),
+    ("one above where it isn't offered", 9, 3, &[Set(3, "seat 5 ante 20 board 0 pocket 0 lo 50 six 51")]),
+    ("256 where it isn't offered", 9, 3, &[Set(3, "seat 5 ante 20 board 0 pocket 0 lo 50 six 256")]),
+    ("65535 where it isn't offered", 9, 3, &[Set(3, "seat 5 ante 20 board 0 pocket 0 lo 50 six 65535")]),
+    ("low byte where it isn't offered", 9, 2, &[Byte(2, 10, 255)]),
+    ("high byte where it isn't offered", 9, 2, &[Byte(2, 11, 1)]),
+    ("one above", 9, 2, &[Set(0, OFFERED), Set(2, "seat 4 ante 50 board 50 pocket 0 lo 0 six 51")]),
+    ("256", 9, 2, &[Set(0, OFFERED), Set(2, "seat 4 ante 50 board 50 pocket 0 lo 0 six 256")]),
+    ("256 + 50", 9, 1, &[Set(0, OFFERED), Set(1, "seat 2 ante 10 board 0 pocket 50 lo 1 six 306")]),
+    ("65535", 9, 3, &[Set(0, OFFERED), Set(3, "seat 5 ante 20 board 0 pocket 0 lo 50 six 65535")]),
+    ("high byte", 9, 3, &[Set(0, OFFERED), Byte(3, 11, 1)]),
+];
+
+#[test]
+fn all_six_wagers() {
+    check(ALL_SIX_WAGERS);
+    for table in 1..=5 {
+        for wager in [0, 1, 49, 50] {
+            let file = edited(&[Byte(0, 7, table), Byte(1, 10, wager), Byte(3, 10, wager)]);
+            assert!(lines(&file).ends_with("pool 0 0\n"), "{table} {wager}");
+        }
+    }
+}
+
+#[rustfmt::skip]
+const ALL_SIX_AND_OTHER_FAULTS: &[Case] = &[
+    ("3 before 6", 3, 0, &[Byte(0, 0, 5), Byte(0, 7, 6)]),
+    ("4 before 6", 4, 0, &[Byte(0, 8, 1), Byte(0, 7, 6)]),
+    ("5 before 6", 5, 0, &[Byte(0, 1, 4), Byte(0, 7, 6)]),
+    ("6 of another table", 6, 0, &[Byte(0, 6, 0), Byte(0, 7, 5)]),
+    ("the table before the seat", 6, 0, &[Byte(0, 7, 6), Byte(1, 10, 1)]),
+    ("4 before 9", 4, 1, &[Byte(1, 12, 1), Byte(1, 10, 1)]),
+    ("4 at byte 15 before 9", 4, 1, &[Set(0, OFFERED), Byte(1, 15, 1), Byte(1, 11, 1)]),
+    ("7 before 9", 7, 2, &[Byte(2, 1, 2), Byte(2, 10, 1)]),
+    ("8 before 9", 8, 1, &[Byte(1, 2, 9), Byte(1, 10, 1)]),
+    ("9 of another wager", 9, 2, &[Set(0, OFFERED), Byte(2, 4, 51), Byte(2, 10, 50)]),
+    ("the first seat", 9, 1, &[Byte(1, 10, 1), Byte(2, 10, 1)]),
+    ("the first record", 9, 3, &[Byte(3, 10, 1), Byte(4, 2, 52)]),
+    ("a fault before 16", 9, 2, &[Byte(2, 10, 1), Cut(3)]),
+    ("2 before all", 2, 14, &[Byte(0, 7, 6), Odd(1)]),
+    ("an eighth seat", 7, 8, &[Insert(4, SIX), Insert(5, SEVEN), Insert(2, THREE), Insert(1, ONE), Insert(8, EIGHT), Byte(8, 10, 1)]),
+    ("a second table", 3, 1, &[Insert(1, OFFERED)]),
+];
+
+#[test]
+fn all_six_and_other_faults() {
+    check(ALL_SIX_AND_OTHER_FAULTS);
+}
+
 #[rustfmt::skip]
 const REFUSALS_10_AND_11: &[Case] = &[
     ("part 1 first", 10, 4, &[Byte(4, 1, 1)]),
@@ -322,7 +389,7 @@ const THE_LOWEST_NUMBER_AND_THE_FIRST_RECORD: &[Case] = &[
     ("3 before 4", 3, 4, &[Set(4, "bytes 02 ff ff ff ff ff ff ff ff ff ff ff ff ff ff ff"), Byte(4, 0, 9)]),
     ("4 before 5", 4, 0, &[Byte(0, 15, 1), Byte(0, 1, 4)]),
     ("5 before 6", 5, 0, &[Byte(0, 2, 24), Byte(0, 3, 0)]),
-    ("4 before 7", 4, 1, &[Byte(1, 10, 1), Byte(1, 1, 8)]),
+    ("4 before 7", 4, 1, &[Byte(1, 12, 1), Byte(1, 1, 8)]),
     ("7 before 8", 7, 2, &[Set(2, BAD_SEAT)]),
     ("8 before 9", 8, 1, &[Set(1, BAD_SEAT)]),
     ("4 before 10", 4, 5, &[Byte(5, 15, 1), Byte(5, 1, 3)]),

@@ -72,6 +72,56 @@ fn packed_bytes() {
     assert_eq!(pack("# nothing\n").as_deref(), Ok(&[][..]));
 }
 
+/// "Table byte 7"; "seat bytes 10 and 11".
+#[test]
+fn packed_all_six() {
+    let table = [1, 5, 100, 2, 1, 1, 1, 5, 0, 0, 0, 0, 0, 0, 0, 0];
+    let line = "table 5 100 base 2 lo 1 board 1 pocket 1 six 5";
+    assert_eq!(pack(line).as_deref(), Ok(&table[..]));
+    let seat = [2, 1, 100, 0, 5, 0, 6, 0, 7, 0, 2, 1, 0, 0, 0, 0];
+    let line = "seat 1 ante 100 board 5 pocket 6 lo 7 six 258";
+    assert_eq!(pack(line).as_deref(), Ok(&seat[..]));
+}
+
+/// Left out, it is 0.
+#[test]
+fn all_six_left_out() {
+    for line in [
+        "table 5 100 base 2 lo 1 board 1 pocket 1",
+        "seat 1 ante 100 board 5 pocket 6 lo 7",
+    ] {
+        let with_0 = pack(&format!("{line} six 0"));
+        assert_eq!(pack(line), with_0);
+        assert_eq!(show(&with_0.unwrap()), format!("{line}\n"));
+    }
+}
+
+/// Where All-Six is offered each seat shows its wager, 0 too; elsewhere only a
+/// wager that isn't 0 is shown. The table above a seat counts.
+#[test]
+fn shown_all_six() {
+    let offered = "table 5 100 base 2 lo 1 board 1 pocket 1 six 255";
+    let not_offered = "table 5 100 base 2 lo 1 board 1 pocket 1";
+    let seat = "seat 1 ante 100 board 5 pocket 6 lo 7";
+    let shown = [
+        seat,
+        offered,
+        &format!("{seat} six 0"),
+        &format!("{seat} six 65535"),
+        "choice 1 fold",
+        &format!("{seat} six 0"),
+        not_offered,
+        seat,
+        &format!("{seat} six 1"),
+        "bytes 01 05 64 02 01 01 01 03 01 00 00 00 00 00 00 00",
+        &format!("{seat} six 0"),
+        "bytes 02 01 64 00 05 00 06 00 07 00 01 00 01 00 00 00",
+        "bytes 01 05",
+    ];
+    let text = shown.join("\n") + "\n";
+    assert_eq!(show(&pack(&text).unwrap()), text);
+}
+
 #[test]
 fn errors_name_the_line_and_what_is_wrong() {
     let cases = [
@@ -94,6 +144,23 @@ fn errors_name_the_line_and_what_is_wrong() {
             "deck 0: Ax Kh 8h 9h Th Jh Qh 2c 2d 2h 2s 3c 3d",
             "'Ax' is no card",
         ),
+        (
+            "table 5 100 base 1 lo 1 board 1 pocket 1 six 256",
+            "'256' is no number of 0 to 255",
+        ),
+        ("table 5 100 base 1 lo 1 board 1 pocket 1 six", "table: see"),
+        ("table six 5", "table: see"),
+        (
+            "seat 1 ante 5 board 0 pocket 0 lo 0 six 65536",
+            "'65536' is no number of 0 to 65535",
+        ),
+        ("seat 1 six 5 ante 5 board 0 pocket 0 lo 0", "seat: see"),
+        (
+            "seat 1 ante 5 board 0 pocket 0 lo 0 six 5 six 5",
+            "seat: see",
+        ),
+        ("seat", "line 1: seat: see"),
+        ("choice 1 fold six 5", "choice: see"),
         ("choice 1 raise", "line 1: choice: see"),
         ("bytes", "1 to 16 of them, here are 0"),
         ("bytes 0", "'0' is no byte of two hex digits"),

@@ -212,7 +212,7 @@ fn refusals_and_the_room() {
     check_rooms(|room| write(&table, room), Ok(&file[..16]));
     check_rooms(|room| write(&Held::fresh(), room), Err(16));
     let mut no_table = held.clone();
-    no_table.table = [0; 6];
+    no_table.table = [0; 7];
     check_rooms(|room| write(&no_table, room), Err(17));
     let mut parts_alone = Held::fresh();
     parts_alone.parts = 1;
@@ -514,12 +514,12 @@ fn generated_files_take_their_last_record() {
 #[test]
 fn held_rounds_are_written_or_refused() {
     let mut rng = Prng::new(35, 0);
-    let mut rounds: Vec<[u8; 143]> = items().iter().map(|item| item.held).collect();
+    let mut rounds: Vec<[u8; 158]> = items().iter().map(|item| item.held).collect();
     let bases = bases::all();
     for turn in 0..20_000 {
         let mut bytes = bases[turn % bases.len()].held.bytes();
         for _ in 0..rng.between(1, 3) {
-            bytes[rng.below(143)] = rng.below(7) as u8;
+            bytes[rng.below(158)] = rng.below(7) as u8;
         }
         rounds.push(bytes);
     }
@@ -532,7 +532,7 @@ fn held_rounds_are_written_or_refused() {
                 assert_eq!(sorted_within_streets(&file), file);
                 written += 1;
             }
-            Err(16) => assert_eq!(bytes, [0; 143]),
+            Err(16) => assert_eq!(bytes, [0; 158]),
             Err(number) => assert_eq!((number, held.is_held()), (17, false)),
         }
     }

@@ -1,13 +1,13 @@
 // Answers held rounds that were made by hand, as no record could: what one record to each is answered, what settling it is, and what writing it.
 //
-// Standard input is a run of items of 159 bytes: a round as its 143 bytes, then a record of 16. A round's bytes are the table's six numbers; the antes, Board,
-// Pocket and Lo Ball wagers of seats 1 to 7, two bytes each, low byte first; the 52 cards; how many deck parts were read; the 21 raises, street by street; the
-// seven folds. Printed is a line for each item: `take` with `next`, `finished` or `refused N`, then `settle` with `refused N`, or with `paid`, the 28 amounts in
+// Standard input is a run of items of 174 bytes: a round as its 158 bytes, then a record of 16. A round's bytes are the table's seven numbers; the antes, Board,
+// Pocket, Lo Ball and All-Six wagers of seats 1 to 7, two bytes each, low byte first; the 52 cards; how many deck parts were read; the 21 raises, street by street; the
+// seven folds. Printed is a line for each item: `take` with `next`, `finished` or `refused N`, then `settle` with `refused N`, or with `paid`, the 35 amounts in
 // cents, `pool` and the pool in dollars, full and as paid; then `write` with `refused N`, or with the records of the written file, each as hexadecimal digits
 // without the zero bytes at its end.
 //
 // Example:
-//     head -c 159 /dev/zero | ./run handmade
+//     head -c 174 /dev/zero | ./run handmade
 // prints
 //     take refused 3 settle refused 16 write refused 16
 //
@@ -43,7 +43,7 @@ ghost use Prim.Native.Nat.{_≤_};
 const NAME: [u8; 8] = *b"handmade";
 
 // The bytes of a round and a record.
-const ITEM: usize = 159;
+const ITEM: usize = 174;
 
 // The bytes of 33 records.
 const FILE: usize = 528;
@@ -59,7 +59,7 @@ enum Turn {
 }
 
 fn words_from(item: &[u8], from: u8) -> [u16; 7]
-    requires { ⌜ from ≤ 48 ⌝ }
+    requires { ⌜ from ≤ 63 ⌝ }
 {
     let mut words = [0u16; 7];
     for k in 0..7 {
@@ -71,7 +71,7 @@ fn words_from(item: &[u8], from: u8) -> [u16; 7]
 fn cards_of(item: &[u8]) -> [u8; 52] {
     let mut cards = [0u8; 52];
     for k in 0..52 {
-        cards[k] = byte_at(item, 62 + k);
+        cards[k] = byte_at(item, 77 + k);
     }
     cards
 }
@@ -79,7 +79,7 @@ fn cards_of(item: &[u8]) -> [u8; 52] {
 fn raises_of(item: &[u8]) -> [u8; 21] {
     let mut raises = [0u8; 21];
     for k in 0..21 {
-        raises[k] = byte_at(item, 115 + k);
+        raises[k] = byte_at(item, 130 + k);
     }
     raises
 }
@@ -87,7 +87,7 @@ fn raises_of(item: &[u8]) -> [u8; 21] {
 fn folds_of(item: &[u8]) -> [u8; 7] {
     let mut folds = [0u8; 7];
     for k in 0..7 {
-        folds[k] = byte_at(item, 136 + k);
+        folds[k] = byte_at(item, 151 + k);
     }
     folds
 }
@@ -100,6 +100,7 @@ fn table_of(item: &[u8]) -> Table {
         lo: byte_at(item, 3),
         board: byte_at(item, 4),
         pocket: byte_at(item, 5),
+        six: byte_at(item, 6),
     }
 }
 
@@ -107,14 +108,15 @@ fn round_of(item: &[u8]) -> Round {
     Round {
         table: table_of(item),
         wagers: Wagers {
-            antes: words_from(item, 6),
-            board: words_from(item, 20),
-            pocket: words_from(item, 34),
-            lo: words_from(item, 48),
+            antes: words_from(item, 7),
+            board: words_from(item, 21),
+            pocket: words_from(item, 35),
+            lo: words_from(item, 49),
+            six: words_from(item, 63),
         },
         deck: Deck {
             cards: cards_of(item),
-            parts: byte_at(item, 114),
+            parts: byte_at(item, 129),
         },
         play: Play {
             raises: raises_of(item),
@@ -168,7 +170,7 @@ fn put_file(line: &mut [u8], at: usize, answer: WriteAnswer, file: &[u8]) -> usi
     }
 }
 
-// A line is at most 28 amounts of 20 digits, the pool and 33 records, so it fits its room.
+// A line is at most 35 amounts of 20 digits, the pool and 33 records, so it fits its room.
 fn answer_round(round: Round, record: &[u8]) -> bool {
     let mut line = [0u8; 2048];
     let step = held::take(round, record);
@@ -183,7 +185,7 @@ fn answer_round(round: Round, record: &[u8]) -> bool {
 }
 
 fn answer_item(item: [u8; ITEM]) -> Turn {
-    if answer_round(round_of(&item), &item[143..159]) {
+    if answer_round(round_of(&item), &item[158..174]) {
         return Turn::Answered;
     }
     Turn::Fault

@@ -1,6 +1,6 @@
 // Answers a stream of round files, one line a file, to be compared with what another settler answers.
 //
-// Each file of the stream comes after its length, two bytes, low byte first. Printed are, of an accepted file, `paid`, the 28 amounts in cents, `pool`
+// Each file of the stream comes after its length, two bytes, low byte first. Printed are, of an accepted file, `paid`, the 35 amounts in cents, `pool`
 // and the pool in dollars, full and as paid; of a refused one `refused N at R`, the refusal's number and its place. Then comes `part` with the
 // byte at which the refused part begins and its bytes as hexadecimal digits; of an accepted file the part is the empty one at the end. Then the file is held: `take`
 // with what all of it but the last record, or the odd bytes at its end, answers to these, `next`, `finished` or `refused N`; `written` with `refused N`, or with
@@ -156,7 +156,7 @@ fn put_rewritten(line: &mut [u8], at: usize, file: &[u8]) -> usize {
     put_written(line, at, file, lent)
 }
 
-// A line is at most 28 amounts of 20 digits, the pool, a part of 16 bytes and 33 records, so it fits its room.
+// A line is at most 35 amounts of 20 digits, the pool, a part of 16 bytes and 33 records, so it fits its room.
 fn write_answer(file: &[u8]) -> Turn {
     let mut line = [0u8; 2048];
     let settled = put_settled(&mut line, file);

@@ -1,9 +1,10 @@
 //! A valid finished round, before it is written as a file.
 
 use super::prng::Prng;
-use super::stacks::{self, Stacked, STACKS};
+use super::stacks::{Stacked, STACKS};
+use crate::deal::Deal;
 use crate::names::{five_name, FiveName};
-use crate::paytables::{BASE_TABLES, BOARD_TABLES, LO_BALL_TABLES, POCKET_TABLES};
+use crate::paytables::{ALL_SIX_TABLES, BASE_TABLES, BOARD_TABLES, LO_BALL_TABLES, POCKET_TABLES};
 use crate::pool;
 use crate::reading::{CARDS_IN_PART, MOST_SEATS, RECORD};
 use crate::records;
@@ -39,8 +40,8 @@ const POOLED_FOLDS: usize = 5;
 pub struct DraftSeat {
     pub number: u8,
     pub ante: usize,
-    /// Board, Pocket, Lo Ball.
-    pub sides: [usize; 3],
+    /// Board, Pocket, Lo Ball, All-Six.
+    pub sides: [usize; 4],
     pub raises: [u8; 3],
     /// The street, from 0, on which the seat folds.
     pub folds: Option<usize>,
@@ -79,6 +80,10 @@ pub struct Draft {
     pub largest: usize,
     /// Base, Lo Ball, Board, Pocket.
     pub tables: [u8; 4],
+    /// The All-Six table, 0 where it isn't offered.
+    pub all_six: u8,
+    /// Whether any seat may wager on All-Six.
+    wagers_all_six: bool,
     pub seats: Vec<DraftSeat>,
     pub deck: Vec<u8>,
     /// Seat and choice, in the order of the file.
@@ -90,11 +95,13 @@ pub struct Draft {
 }
 
 impl Draft {
-    pub fn new(rng: &mut Prng) -> Draft {
-        let stack = stacks::pick(rng);
+    /// A round over a deck of that place in `STACKS`.
+    pub fn new(rng: &mut Prng, stack: usize) -> Draft {
         let stacked = STACKS[stack].make(rng);
         let numbers = seat_numbers(rng, stacked.pockets.len().max(1));
-        let deck = deal(rng, &stacked, numbers.len());
+        let offered = stacked.all_six.is_some() || rng.below(5) < 2;
+        let all_six = if offered { all_six_table(rng) } else { 0 };
+        let deck = stacked_deck(rng, &stacked, numbers.len(), offered);
         let smallest = end_or_between(rng, 5, 15);
         let largest = end_or_between(rng, 25, 100);
         let tables = [BASE_TABLES, LO_BALL_TABLES, BOARD_TABLES, POCKET_TABLES];
@@ -102,6 +109,8 @@ impl Draft {
             smallest,
             largest,
             tables: tables.map(|count| rng.between(1, count) as u8),
+            all_six,
+            wagers_all_six: offered && !rng.one_in(8),
             seats: Vec::with_capacity(numbers.len()),
             deck,
             choices: Vec::with_capacity(3 * MOST_SEATS),
@@ -134,10 +143,16 @@ impl Draft {
             9 => Some(any_street),
             _ => None,
         };
+        let [board, pocket, lo_ball] = [0; 3].map(|_| side_wager(rng, self.largest).max(least));
+        let all_six = if self.wagers_all_six {
+            side_wager(rng, self.largest).max(least)
+        } else {
+            0
+        };
         let mut seat = DraftSeat {
             number,
             ante: 0,
-            sides: [0; 3].map(|_| side_wager(rng, self.largest).max(least)),
+            sides: [board, pocket, lo_ball, all_six],
             raises: [1; 3],
             folds,
         };
@@ -161,12 +176,12 @@ impl Draft {
     /// The places, among the playing seats, of the hands that would be pooled,
     /// with their odds.
     fn pooled(&self) -> Vec<(usize, usize)> {
-        let deck = &self.deck;
-        let board = 2 * self.seats.len();
+        let deal = Deal::new(self.seats.len(), self.offers_all_six());
+        let [a, b, c] = deal.community();
         let mut pooled = Vec::new();
         for order in 0..self.seats.len() {
-            let [a, b] = [deck[2 * order], deck[2 * order + 1]];
-            match five_name([a, b, deck[board], deck[board + 1], deck[board + 2]]) {
+            let [d, e] = deal.pocket(order);
+            match five_name([a, b, c, d, e].map(|place| self.deck[place])) {
                 FiveName::RoyalFlush => pooled.push((order, 500)),
                 FiveName::StraightFlush => pooled.push((order, 100)),
                 _ => (),
@@ -254,11 +269,23 @@ impl Draft {
         }
     }
 
+    pub fn offers_all_six(&self) -> bool {
+        self.all_six > 0
+    }
+
     pub fn file(&self) -> Vec<u8> {
         let mut file = Vec::with_capacity(48 * RECORD);
         let [base, lo_ball, board, pocket] = self.tables;
         let [smallest, largest] = [self.smallest as u8, self.largest as u8];
-        let table = [smallest, largest, base, lo_ball, board, pocket];
+        let table = [
+            smallest,
+            largest,
+            base,
+            lo_ball,
+            board,
+            pocket,
+            self.all_six,
+        ];
         file.extend_from_slice(&records::table(table));
         for seat in &self.seats {
             file.extend_from_slice(&seat_record(seat));
@@ -274,9 +301,15 @@ impl Draft {
 }
 
 pub fn seat_record(seat: &DraftSeat) -> [u8; RECORD] {
-    let [board, pocket, lo_ball] = seat.sides;
-    let wagers = [seat.ante, board, pocket, lo_ball];
+    let [board, pocket, lo_ball, all_six] = seat.sides;
+    let wagers = [seat.ante, board, pocket, lo_ball, all_six];
     records::seat(seat.number, wagers.map(|wager| wager as u16))
+}
+
+/// The last table, which alone tells the six-card royals apart, comes twice as
+/// often as each other.
+fn all_six_table(rng: &mut Prng) -> u8 {
+    rng.between(1, ALL_SIX_TABLES + 1).min(ALL_SIX_TABLES) as u8
 }
 
 /// Rising seat numbers with gaps, at least so many.
@@ -289,17 +322,22 @@ fn seat_numbers(rng: &mut Prng, least: usize) -> Vec<u8> {
 }
 
 /// A shuffled deck with the stacked cards moved to where they are dealt.
-fn deal(rng: &mut Prng, stacked: &Stacked, seats: usize) -> Vec<u8> {
+fn stacked_deck(rng: &mut Prng, stacked: &Stacked, seats: usize, offered: bool) -> Vec<u8> {
+    let deal = Deal::new(seats, offered);
     let mut deck: Vec<u8> = (0..52).collect();
     rng.shuffle(&mut deck);
     let mut orders: Vec<usize> = (0..seats).collect();
     rng.shuffle(&mut orders);
     for (cards, order) in stacked.pockets.iter().zip(orders) {
-        move_card(&mut deck, cards[0], 2 * order);
-        move_card(&mut deck, cards[1], 2 * order + 1);
+        for (&card, place) in cards.iter().zip(deal.pocket(order)) {
+            move_card(&mut deck, card, place);
+        }
     }
-    for (place, &card) in stacked.board.iter().enumerate() {
-        move_card(&mut deck, card, 2 * seats + place);
+    for (&card, place) in stacked.board.iter().zip(deal.community()) {
+        move_card(&mut deck, card, place);
+    }
+    for (card, place) in stacked.all_six.into_iter().zip(deal.all_six()) {
+        move_card(&mut deck, card, place);
     }
     if stacked.card_zero_late {
         move_card(&mut deck, 0, 39 + rng.below(13));

@@ -56,14 +56,17 @@ impl Generator {
         let step = place % ROW * DAMAGED;
         if step % ROW < DAMAGED {
             let turn = place / ROW * DAMAGED + step / ROW;
-            let way = self.pick_way(&mut rng, turn);
+            let way = self.way_in_turn(turn);
             for _ in 0..TRIES {
                 if let Some(made) = self.damaged(&mut rng, way) {
                     return made;
                 }
             }
         }
-        let draft = Draft::new(&mut rng);
+        // All weights together have no divisor in common with the row, so that
+        // valid files alone get each stack by its weight too.
+        let stack = stacks::in_turn(place.wrapping_add(self.seed));
+        let draft = Draft::new(&mut rng, stack);
         Made {
             file: draft.file(),
             draft,
@@ -71,21 +74,23 @@ impl Generator {
         }
     }
 
-    /// Three times in eight a favoured way by chance, else each way in its
-    /// turn.
-    fn pick_way(&self, rng: &mut Prng, turn: u64) -> usize {
+    /// The way for a turn. Of eight in a row two go to the unfinished rounds and
+    /// faulty last records, one to several faults and chance, five to all ways;
+    /// each group comes in its order.
+    fn way_in_turn(&self, turn: u64) -> usize {
         let count = self.ways.len();
-        match rng.below(8) {
-            0 | 1 => return rng.between(self.first_held, self.first_several - 1),
-            2 => return rng.between(self.first_several, count - 1),
-            _ => (),
-        }
-        let count = count as u64;
-        ((self.seed % count + turn % count) % count) as usize
+        let (group, nth) = match turn % 8 {
+            step @ (0 | 1) => (self.first_held..self.first_several, turn / 8 * 2 + step),
+            2 => (self.first_several..count, turn / 8),
+            step => (0..count, turn / 8 * 5 + step - 3),
+        };
+        let length = group.len() as u64;
+        group.start + ((self.seed % length + nth % length) % length) as usize
     }
 
     fn damaged(&self, rng: &mut Prng, way: usize) -> Option<Made> {
-        let draft = Draft::new(rng);
+        let stack = stacks::pick(rng);
+        let draft = Draft::new(rng, stack);
         let mut file = draft.file();
         let expected = (self.ways[way].damage)(rng, &draft, &mut file)?;
         Some(Made {

@@ -2,15 +2,20 @@
 //! rare hands come often.
 
 use super::prng::Prng;
-use crate::cards::{card, ACE, JACK, KING, QUEEN, TEN};
+use crate::cards::{card, ACE, JACK, KING, NINE, QUEEN, TEN};
+use crate::names::{five_name, five_of_six, six_name, SixName};
 
 #[derive(Clone, Copy)]
 pub enum Suits {
     One,
+    /// This one.
+    Of(u8),
+    /// One for all cards but one.
+    ButOne,
     Mixed,
 }
 
-use Suits::{Mixed, One};
+use Suits::{ButOne, Mixed, Of, One};
 
 /// Whose the stacked cards are.
 #[derive(Clone, Copy)]
@@ -20,6 +25,9 @@ pub enum Holder {
     Five,
     Board,
     Pocket,
+    /// A seat's two cards, the board and the All-Six card, divided by chance.
+    /// To five cards comes a sixth with which their name is kept.
+    Six,
     /// The board, then the pockets of two seats.
     TwoSeats,
     /// Card 0 lies in the last deck part.
@@ -34,10 +42,12 @@ pub struct Stack {
     ranks: fn(&mut Prng) -> Vec<u8>,
 }
 
-/// Stacked cards: the board and the pockets, where they are given.
+/// Stacked cards: the board, the All-Six card and the pockets, where they are
+/// given.
 #[derive(Default)]
 pub struct Stacked {
     pub board: Vec<u8>,
+    pub all_six: Option<u8>,
     pub pockets: Vec<[u8; 2]>,
     pub card_zero_late: bool,
 }
@@ -52,6 +62,15 @@ const fn board(name: &'static str, suits: Suits, ranks: fn(&mut Prng) -> Vec<u8>
 
 const fn pocket(name: &'static str, suits: Suits, ranks: fn(&mut Prng) -> Vec<u8>) -> Stack {
     stack(name, 2, Holder::Pocket, suits, ranks)
+}
+
+const fn six(
+    name: &'static str,
+    weight: usize,
+    suits: Suits,
+    ranks: fn(&mut Prng) -> Vec<u8>,
+) -> Stack {
+    stack(name, weight, Holder::Six, suits, ranks)
 }
 
 const fn stack(
@@ -132,12 +151,52 @@ pub const STACKS: &[Stack] = &[
     pocket("pocket K-Q suited", One, |_| vec![KING, QUEEN]),
     pocket("pocket K-Q unsuited", Mixed, |_| vec![KING, QUEEN]),
     pocket("pocket other pair", Mixed, |rng| vec![rng.below(12) as u8; 2]),
+    six("All-Six six-card royal of clubs", 3, Of(0), |_| (NINE..=ACE).collect()),
+    six("All-Six six-card royal of diamonds", 5, Of(1), |_| (NINE..=ACE).collect()),
+    six("All-Six six-card royal of hearts", 3, Of(2), |_| (NINE..=ACE).collect()),
+    six("All-Six six-card royal of spades", 3, Of(3), |_| (NINE..=ACE).collect()),
+    six("All-Six 9 to A, one of another suit", 2, ButOne, |_| (NINE..=ACE).collect()),
+    six("All-Six 8 to K suited", 2, One, |_| (NINE - 1..=KING).collect()),
+    six("All-Six royal flush", 6, One, |_| (TEN..=ACE).collect()),
+    six("All-Six straight flush", 4, One, |rng| run(rng.below(8) as u8)),
+    six("All-Six A-2-3-4-5 suited", 2, One, |_| vec![ACE, 0, 1, 2, 3]),
+    six("All-Six four of a kind", 4, Mixed, |rng| kinds(rng, &[4, 1])),
+    six("All-Six four of a kind and a pair", 2, Mixed, |rng| kinds(rng, &[4, 2])),
+    six("All-Six full house", 4, Mixed, |rng| kinds(rng, &[3, 2])),
+    six("All-Six two threes of a kind", 2, Mixed, |rng| kinds(rng, &[3, 3])),
+    six("All-Six flush", 4, One, |rng| kinds(rng, &[1, 1, 1, 1, 1])),
+    six("All-Six six of one suit", 2, One, |rng| kinds(rng, &[1, 1, 1, 1, 1, 1])),
+    six("All-Six straight", 4, Mixed, |rng| run(rng.below(8) as u8)),
+    six("All-Six A-2-3-4-5 mixed", 2, Mixed, |_| vec![ACE, 0, 1, 2, 3]),
+    six("All-Six J-Q-K-A-2-3 mixed", 2, Mixed, |_| vec![JACK, QUEEN, KING, ACE, 0, 1]),
+    six("All-Six six ranks in a row", 2, Mixed, |rng| run_of_six(rng.below(8) as u8)),
+    six("All-Six six ranks in a row, one of another suit", 2, ButOne, |rng| run_of_six(rng.below(8) as u8)),
+    six("All-Six three of a kind", 4, Mixed, |rng| kinds(rng, &[3, 1, 1])),
+    six("All-Six two pair", 2, Mixed, |rng| kinds(rng, &[2, 2, 1])),
+    six("All-Six three pairs", 2, Mixed, |rng| kinds(rng, &[2, 2, 2])),
 ];
 
-/// The place of a stack in the list, by weight.
+/// The place of a stack in the list, by chance and weight.
 pub fn pick(rng: &mut Prng) -> usize {
-    let total: usize = STACKS.iter().map(|stack| stack.weight).sum();
-    let mut left = rng.below(total);
+    by_weight(rng.below(total_weight()))
+}
+
+/// The place of a stack in the list for a turn. In so many turns in a row as
+/// all weights make together, each stack comes as often as its weight says.
+pub fn in_turn(turn: u64) -> usize {
+    let total = total_weight() as u64;
+    by_weight((turn % total * STRIDE % total) as usize)
+}
+
+/// Has no divisor in common with all weights together, so that stacks of great
+/// weight don't come in a row.
+const STRIDE: u64 = 89;
+
+fn total_weight() -> usize {
+    STACKS.iter().map(|stack| stack.weight).sum()
+}
+
+fn by_weight(mut left: usize) -> usize {
     for (place, stack) in STACKS.iter().enumerate() {
         if left < stack.weight {
             return place;
@@ -165,6 +224,15 @@ impl Stack {
                 stacked.pockets = vec![[cards[0], cards[1]]];
                 stacked.board = cards[2..].to_vec();
             }
+            Holder::Six => {
+                if let Ok(five) = cards.as_slice().try_into() {
+                    cards.push(sixth_card(rng, five));
+                }
+                rng.shuffle(&mut cards);
+                stacked.board = cards[..3].to_vec();
+                stacked.all_six = Some(cards[3]);
+                stacked.pockets = vec![[cards[4], cards[5]]];
+            }
             Holder::Board => stacked.board = cards,
             Holder::Pocket => stacked.pockets = vec![[cards[0], cards[1]]],
         }
@@ -173,11 +241,29 @@ impl Stack {
     }
 }
 
-/// Cards of these ranks, none twice; all of one suit, or not all of one.
+/// A sixth card with which five keep their name: half the time, where there is
+/// one, a card that must be left out for it.
+fn sixth_card(rng: &mut Prng, five: [u8; 5]) -> u8 {
+    let mut others: Vec<u8> = (0..52).filter(|card| !five.contains(card)).collect();
+    rng.shuffle(&mut others);
+    let name = five_name(five);
+    let with = |card: u8| [five[0], five[1], five[2], five[3], five[4], card];
+    others.retain(|&card| six_name(with(card)) == SixName::Five(name));
+    let loses = |card: u8, place: usize| five_name(five_of_six(with(card), place)) != name;
+    let left_out = |card: &&u8| (0..5).all(|place| loses(**card, place));
+    let found = others.iter().find(left_out).filter(|_| rng.one_in(2));
+    found.or(others.first()).copied().unwrap_or(0)
+}
+
+/// Cards of these ranks, none twice, in suits as they are asked for. Mixed are
+/// cards not all of one suit.
 fn with_suits(rng: &mut Prng, ranks: &[u8], suits: Suits) -> Vec<u8> {
     let one = rng.below(4) as u8;
-    if let One = suits {
-        return ranks.iter().map(|&rank| card(rank, one)).collect();
+    match suits {
+        One => return ranks.iter().map(|&rank| card(rank, one)).collect(),
+        Of(suit) => return ranks.iter().map(|&rank| card(rank, suit)).collect(),
+        ButOne => return but_one(rng, ranks, one),
+        Mixed => (),
     }
     let mut cards: Vec<u8> = Vec::with_capacity(ranks.len());
     for (place, &rank) in ranks.iter().enumerate() {
@@ -194,6 +280,19 @@ fn with_suits(rng: &mut Prng, ranks: &[u8], suits: Suits) -> Vec<u8> {
         cards.push(card(rank, suit));
     }
     cards
+}
+
+fn but_one(rng: &mut Prng, ranks: &[u8], suit: u8) -> Vec<u8> {
+    let mut cards: Vec<u8> = ranks.iter().map(|&rank| card(rank, suit)).collect();
+    let place = rng.below(ranks.len());
+    let other = (suit + rng.between(1, 3) as u8) % 4;
+    cards[place] = card(ranks[place], other);
+    cards
+}
+
+/// Six ranks that rise by one.
+fn run_of_six(low: u8) -> Vec<u8> {
+    (low..low + 6).collect()
 }
 
 /// Five ranks that rise by one.

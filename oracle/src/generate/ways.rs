@@ -38,6 +38,7 @@ pub fn all() -> Vec<Way> {
     ways.seat_numbers();
     ways.seats_after_the_last();
     ways.wagers();
+    ways.all_six_wagers();
     ways.parts();
     ways.cards();
     ways.repeats();
@@ -49,6 +50,7 @@ pub fn all() -> Vec<Way> {
     ways.faults_in_several_records();
     ways.moved_records();
     ways.changed_choices();
+    ways.changed_all_six();
     ways.choices_by_chance();
     ways.some_bytes();
     ways.random_bytes();
@@ -212,12 +214,12 @@ impl Ways {
         });
     }
 
-    /// "Bytes that must be zero: table 7 to 15, seat 10 to 15, deck 15, choice
-    /// 3 to 15."
+    /// "Bytes that must be zero: .. deck 15, choice 3 to 15 (with 02 b: table 8
+    /// to 15, seat 12 to 15)."
     fn zero_bytes(&mut self) {
         let kinds = [
-            ("table", TABLE, 7),
-            ("seat", SEAT, 10),
+            ("table", TABLE, 8),
+            ("seat", SEAT, 12),
             ("deck part", DECK_PART, 15),
             ("choice", CHOICE, 3),
         ];
@@ -255,6 +257,9 @@ impl Ways {
                 self.add_byte(6, &format!("{name} table {value}"), TABLE, at, value);
             }
         }
+        for value in [6, 255] {
+            self.add_byte(6, &format!("All-Six table {value}"), TABLE, 7, value);
+        }
     }
 
     fn seat_numbers(&mut self) {
@@ -286,12 +291,12 @@ impl Ways {
         self.add("7 an eighth seat with other faults", |_, draft, file| {
             add_eighth(draft, file, 8, |seat| {
                 seat.ante = 0;
-                seat.sides = [65_535; 3];
+                seat.sides = [65_535; 4];
             })
         });
         self.add("4 an eighth seat, a byte not zero", |rng, draft, file| {
             add_eighth(draft, file, 8, |_| ())?;
-            file[8 * RECORD + rng.between(10, 15)] = 1;
+            file[8 * RECORD + rng.between(12, 15)] = 1;
             Some(Refusal(4, 8))
         });
         self.add("7 a seat after seat 7", |rng, draft, file| {
@@ -332,6 +337,42 @@ impl Ways {
             });
             self.add_wager(&format!("{name} 65535"), at, |_, _| Some(65_535));
         }
+    }
+
+    fn all_six_wagers(&mut self) {
+        let mut add = |name: &str, value| self.add_wager(name, 10, value);
+        add("All-Six one above", |draft, _| {
+            offered(draft, draft.largest + 1)
+        });
+        add("All-Six 256", |draft, _| offered(draft, 256));
+        add("All-Six 256 + a fitting one", |draft, wager| {
+            offered(draft, 256 + wager)
+        });
+        add("All-Six 65535", |draft, _| offered(draft, 65_535));
+        add("All-Six 1, not offered", |draft, _| not_offered(draft, 1));
+        add("All-Six the largest ante, not offered", |draft, _| {
+            not_offered(draft, draft.largest)
+        });
+        add("All-Six one above, not offered", |draft, _| {
+            not_offered(draft, draft.largest + 1)
+        });
+        add("All-Six 256, not offered", |draft, _| {
+            not_offered(draft, 256)
+        });
+        add("All-Six 65535, not offered", |draft, _| {
+            not_offered(draft, 65_535)
+        });
+        self.add("9 All-Six, a high byte", |rng, draft, file| {
+            let place = some_place(rng, draft, SEAT)?;
+            file[place * RECORD + 11] = rng.between(1, 255) as u8;
+            Some(Refusal(9, place))
+        });
+        self.add("9 All-Six wagers, table byte 7 made 0", |_, draft, file| {
+            let wagers = |seat: &DraftSeat| seat.sides[3] > 0;
+            let order = draft.seats.iter().position(wagers)?;
+            file[7] = 0;
+            Some(Refusal(9, 1 + order))
+        });
     }
 
     fn parts(&mut self) {
@@ -541,7 +582,7 @@ impl Ways {
             let order = pick_of(rng, 1..draft.seats.len())?;
             let mut seat = draft.seats[order - 1].clone();
             seat.ante = rng.pick(&[0, 4, 101, 256])?;
-            seat.sides[rng.below(3)] = 101;
+            seat.sides[rng.below(4)] = 101;
             put(file, order + 1, &seat_record(&seat));
             Some(Refusal(7, order + 1))
         });
@@ -628,6 +669,25 @@ impl Ways {
         });
     }
 
+    fn changed_all_six(&mut self) {
+        self.add("any All-Six table", |rng, _, file| {
+            file[7] = rng.below(7) as u8;
+            Some(Anything)
+        });
+        self.add("any All-Six wager", |rng, draft, file| {
+            let place = some_place(rng, draft, SEAT)?;
+            file[place * RECORD + 10] = rng.between(0, draft.largest + 1) as u8;
+            Some(Anything)
+        });
+        self.add("any All-Six table, no wagers", |rng, draft, file| {
+            file[7] = rng.below(6) as u8;
+            for place in 1..decks(draft).start {
+                file[place * RECORD + 10] = 0;
+            }
+            Some(Anything)
+        });
+    }
+
     fn choices_by_chance(&mut self) {
         self.add("any choices by playing seats", |rng, draft, file| {
             let playing: Vec<u8> = draft.seats.iter().map(|seat| seat.number).collect();
@@ -701,6 +761,15 @@ impl Ways {
             Some(Anything)
         });
     }
+}
+
+/// The wager, where All-Six is offered.
+fn offered(draft: &Draft, wager: usize) -> Option<usize> {
+    Some(wager).filter(|_| draft.offers_all_six())
+}
+
+fn not_offered(draft: &Draft, wager: usize) -> Option<usize> {
+    Some(wager).filter(|_| !draft.offers_all_six())
 }
 
 /// The places of the deck parts in the draft's own file.
@@ -903,6 +972,7 @@ const SURE: [&[(usize, u8, u8)]; 4] = [
         (2, 101, 5),
         (3, 6, 6),
         (6, 0, 6),
+        (7, 6, 6),
     ],
     &[
         (0, 5, 3),
@@ -911,6 +981,7 @@ const SURE: [&[(usize, u8, u8)]; 4] = [
         (3, 1, 8),
         (5, 1, 9),
         (9, 255, 9),
+        (11, 1, 9),
     ],
     &[(0, 9, 3), (15, 1, 4), (1, 7, 10), (2, 52, 11), (14, 99, 11)],
     &[(0, 0, 3), (3, 1, 4), (15, 128, 4), (1, 0, 7), (2, 4, 12)],

@@ -16,11 +16,11 @@ pub struct Base {
 /// The records of a round. Some wagers stand at a limit and some at 0, so that
 /// the smallest change counts.
 struct Play {
-    /// Smallest and largest ante, then the base, Lo Ball, Board and Pocket
-    /// tables.
-    table: [u8; 6],
-    /// The seat, then its ante, Board, Pocket and Lo Ball wagers.
-    seats: &'static [(u8, [u16; 4])],
+    /// Smallest and largest ante, then the base, Lo Ball, Board, Pocket and
+    /// All-Six tables.
+    table: [u8; 7],
+    /// The seat, then its ante, Board, Pocket, Lo Ball and All-Six wagers.
+    seats: &'static [(u8, [u16; 5])],
     /// The first cards of the deck.
     top: &'static [u8],
     /// The other cards come in the order `first`, `first + step`, and so on,
@@ -31,15 +31,15 @@ struct Play {
     choices: &'static [(u8, u8)],
 }
 
-/// Seat 4 has an ante alone. Card 0 is the last of the second deck part, so
-/// that it stands before the places not yet filled.
+/// All-Six is offered. Seat 4 has an ante alone. Card 0 is the last of the
+/// second deck part, so that it stands before the places not yet filled.
 const UP_TO_THE_DECK: Play = Play {
-    table: [5, 100, 5, 1, 4, 2],
+    table: [5, 100, 5, 1, 4, 2, 2],
     seats: &[
-        (2, [5, 100, 0, 1]),
-        (4, [100, 0, 0, 0]),
-        (5, [50, 1, 99, 100]),
-        (6, [20, 0, 100, 0]),
+        (2, [5, 100, 0, 1, 100]),
+        (4, [100, 0, 0, 0, 0]),
+        (5, [50, 1, 99, 100, 1]),
+        (6, [20, 0, 100, 0, 99]),
     ],
     top: &[],
     first: 1,
@@ -47,16 +47,16 @@ const UP_TO_THE_DECK: Play = Play {
     choices: &[(4, 2)],
 };
 
-/// Seats 2 and 5 are absent, seat 4 has an ante alone. On street one seat 3
-/// folds, on street two seat 7, on street three seat 4.
+/// All-Six isn't offered. Seats 2 and 5 are absent, seat 4 has an ante alone.
+/// On street one seat 3 folds, on street two seat 7, on street three seat 4.
 const IN_PLAY: Play = Play {
-    table: [15, 25, 1, 2, 1, 3],
+    table: [15, 25, 1, 2, 1, 3, 0],
     seats: &[
-        (1, [25, 25, 0, 25]),
-        (3, [15, 0, 0, 5]),
-        (4, [20, 0, 0, 0]),
-        (6, [16, 1, 2, 3]),
-        (7, [15, 0, 24, 0]),
+        (1, [25, 25, 0, 25, 0]),
+        (3, [15, 0, 0, 5, 0]),
+        (4, [20, 0, 0, 0, 0]),
+        (6, [16, 1, 2, 3, 0]),
+        (7, [15, 0, 24, 0, 0]),
     ],
     top: &[],
     first: 5,
@@ -78,10 +78,14 @@ const IN_PLAY: Play = Play {
 
 /// Ah Kh and 8h 9h with Th Jh Qh on the board: a royal and a straight flush,
 /// in a pool of 121,000 under a maximum of 50,000. Seat 5 has three queens.
-/// The last choice is one too many.
+/// All-Six isn't offered. The last choice is one too many.
 const NO_FOLD: Play = Play {
-    table: [10, 60, 2, 1, 2, 1],
-    seats: &[(1, [20, 5, 5, 0]), (2, [30, 0, 5, 10]), (5, [12, 0, 59, 0])],
+    table: [10, 60, 2, 1, 2, 1, 0],
+    seats: &[
+        (1, [20, 5, 5, 0, 0]),
+        (2, [30, 0, 5, 10, 0]),
+        (5, [12, 0, 59, 0, 0]),
+    ],
     top: &[50, 46, 26, 30, 40, 41, 34, 38, 42],
     first: 0,
     step: 1,
@@ -99,24 +103,37 @@ const NO_FOLD: Play = Play {
     ],
 };
 
-/// Seat 3 has Ac Ad, seat 5 2c 3d, seat 7 Qs Qc; the board is 4h 9h Jh. They
-/// fold on streets one, three and two. The last choice is one too many.
+/// The board is 4h 9h Jh, the All-Six card Ah. Seat 3 has Ac Ad, seat 5 2c 3d,
+/// seat 7 Qs Qc. They fold on streets one, three and two. The last choice is
+/// one too many.
 const ALL_FOLD: Play = Play {
-    table: [12, 99, 4, 2, 3, 2],
+    table: [12, 99, 4, 2, 3, 2, 3],
     seats: &[
-        (3, [13, 10, 99, 0]),
-        (5, [99, 0, 0, 20]),
-        (7, [40, 1, 98, 30]),
+        (3, [13, 10, 99, 0, 99]),
+        (5, [99, 0, 0, 20, 7]),
+        (7, [40, 1, 98, 30, 0]),
     ],
-    top: &[48, 49, 0, 5, 43, 40, 10, 30, 38],
+    top: &[10, 30, 38, 50, 48, 49, 0, 5, 43, 40],
     first: 51,
     step: 51,
     choices: &[(7, 1), (3, 0), (5, 2), (5, 1), (7, 0), (5, 0), (5, 1)],
 };
 
+/// The board is Td Qd Ad, the All-Six card Jd. Seat 2 has Kd 9d, the six-card
+/// royal of diamonds, and folds on street two; seat 6 has Ac As, three aces. The
+/// last choice is one too many.
+const SIX_CARD_ROYAL: Play = Play {
+    table: [5, 100, 1, 1, 1, 1, 5],
+    seats: &[(2, [5, 0, 0, 0, 100]), (6, [10, 1, 0, 0, 1])],
+    top: &[33, 41, 49, 37, 45, 29, 48, 51],
+    first: 0,
+    step: 1,
+    choices: &[(6, 1), (2, 1), (2, 0), (6, 1), (6, 1), (6, 1)],
+};
+
 /// The name of each base round, its play, and how many of its records led to
 /// the round.
-const BASES: [(&str, &Play, usize); 12] = [
+const BASES: [(&str, &Play, usize); 13] = [
     ("the fresh round", &UP_TO_THE_DECK, 0),
     ("a table", &UP_TO_THE_DECK, 1),
     ("seats", &UP_TO_THE_DECK, 4),
@@ -129,6 +146,7 @@ const BASES: [(&str, &Play, usize); 12] = [
     ("street three", &IN_PLAY, 20),
     ("finished, no fold", &NO_FOLD, 17),
     ("finished, all folded", &ALL_FOLD, 14),
+    ("finished, six-card royal", &SIX_CARD_ROYAL, 12),
 ];
 
 pub fn all() -> Vec<Base> {

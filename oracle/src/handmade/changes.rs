@@ -2,7 +2,7 @@
 
 use crate::cards::DECK;
 use crate::held::{Held, CARDS_AT, PARTS_AT, WAGERS_AT};
-use crate::paytables::{BASE_TABLES, BOARD_TABLES, LO_BALL_TABLES, POCKET_TABLES};
+use crate::paytables::{ALL_SIX_TABLES, BASE_TABLES, BOARD_TABLES, LO_BALL_TABLES, POCKET_TABLES};
 use crate::reading::{CARDS_IN_PART, MOST_SEATS};
 
 /// The other values of the byte at a place, none twice: its neighbours, the
@@ -28,6 +28,7 @@ fn turning(held: &Held, at: usize) -> Vec<u8> {
         3 => of_tables(LO_BALL_TABLES),
         4 => of_tables(BOARD_TABLES),
         5 => of_tables(POCKET_TABLES),
+        6 => (1..=ALL_SIX_TABLES as u8 + 1).collect(),
         WAGERS_AT..CARDS_AT => of_wager(held, at - WAGERS_AT),
         CARDS_AT..PARTS_AT => of_card(held, at - CARDS_AT),
         PARTS_AT => vec![1, 2, 3, 4, 5],
@@ -41,7 +42,8 @@ fn of_tables(count: usize) -> Vec<u8> {
 
 /// For a low byte the table's limits and the values just outside them. A side
 /// wager without an ante, and a high byte, have no value but 0 that could
-/// stand.
+/// stand; nor has an All-Six wager where it isn't offered, which is tried at the
+/// limits all the same.
 fn of_wager(held: &Held, at: usize) -> Vec<u8> {
     let [smallest, largest, ..] = held.table;
     let (number, byte) = (at / 2, at % 2);

@@ -1,5 +1,5 @@
 //! Held rounds made by hand, and what they are answered. An item is a held
-//! round's 143 bytes, then a record's 16; items stand in a stream with nothing
+//! round's 158 bytes, then a record's 16; items stand in a stream with nothing
 //! between.
 
 pub mod bases;
