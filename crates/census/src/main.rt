@@ -1,9 +1,9 @@
-// How many hands have each name: every hand of five, three and two of the 52 cards, named through the public entries.
+// How many hands have each name: every hand of five, three, two and six of the 52 cards, named through the public entries.
 //
 // Example:
 //     ./run census | tail -n 1
 // prints
-//     pocket: 6 12 36 72 1200 0
+//     All-Six: 1 3 184 1656 14664 165984 205792 361620 732160 2532816 3000756 3733800 9609084 0
 //
 // The file stdout beside src/ has what this must print. It was worked out by combinatorics and not by this code:
 // docs/COUNTS.md has the working. Every function here is proved safe and ending; what the program prints is tested and
@@ -31,10 +31,12 @@ const BOARD: u8 = 2;
 
 const POCKET: u8 = 3;
 
+const SIX: u8 = 4;
+
 // The row of an entry's answer: the name's place in its list, and the row after the last name for a refusal.
 fn five_row(cards: &[u8]) -> usize {
     match names::name_five(cards) {
-        FiveAnswer::Name(name) => odds::five_place(name),
+        FiveAnswer::Name(name) => names::five_place(name),
         FiveAnswer::Refused(_) => 11,
     }
 }
@@ -68,12 +70,20 @@ fn pocket_row(cards: &[u8]) -> usize {
     }
 }
 
+// A refusal leaves the row as it is.
+fn six_row(cards: &[u8]) -> usize {
+    let mut row = 13;
+    allsix::name_six_told(cards, &mut row);
+    row
+}
+
 fn row_of(entry: u8, cards: &[u8]) -> usize {
     match entry {
         0 => five_row(cards),
         1 => lo_row(cards),
         2 => board_row(cards),
-        _ => pocket_row(cards),
+        3 => pocket_row(cards),
+        _ => six_row(cards),
     }
 }
 
@@ -88,8 +98,8 @@ fn counted(counts: [u64; 16], row: usize) -> [u64; 16] {
 
 // The hand after this one. Its cards rise, up to the place `last`: the lowest card that can go up by one and stay below
 // the next does so, and the cards before it start again from 0. So from 0, 1, 2 .. each set of cards comes once.
-fn next_hand(hand: [u8; 5], last: usize) -> [u8; 5]
-    requires { ⌜ last < 5 ⌝ }
+fn next_hand(hand: [u8; 6], last: usize) -> [u8; 6]
+    requires { ⌜ last < 6 ⌝ }
 {
     let mut next = hand;
     let mut i = 0;
@@ -108,9 +118,9 @@ fn next_hand(hand: [u8; 5], last: usize) -> [u8; 5]
 
 // How many of the first so many hands of this size have each row.
 fn tally(entry: u8, size: usize, hands: u64) -> [u64; 16]
-    requires { ⌜ (0 < size) × (size ≤ 5) ⌝ }
+    requires { ⌜ (0 < size) × (size ≤ 6) ⌝ }
 {
-    let mut hand = [0u8, 1, 2, 3, 4];
+    let mut hand = [0u8, 1, 2, 3, 4, 5];
     let mut counts = [0u64; 16];
     let mut left = hands;
     while 0 < left {
@@ -132,7 +142,7 @@ fn write_counts(words: &[u8], counts: [u64; 16], rows: usize) -> bool
     print(&NAME, &line, last)
 }
 
-// A line for each entry: how many hands have each name, in the order of document 01's list, and how many are refused.
+// A line for each entry: how many hands have each name, from the highest, and how many are refused.
 fn ask_all() -> Outcome {
     if !write_counts(b"five cards:", tally(FIVE, 5, 2598960), 12) {
         return Outcome::Fault;
@@ -144,6 +154,9 @@ fn ask_all() -> Outcome {
         return Outcome::Fault;
     }
     if !write_counts(b"pocket:", tally(POCKET, 2, 1326), 6) {
+        return Outcome::Fault;
+    }
+    if !write_counts(b"All-Six:", tally(SIX, 6, 20358520), 14) {
         return Outcome::Fault;
     }
     Outcome::Done

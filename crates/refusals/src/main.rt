@@ -5,12 +5,13 @@
 // Example:
 //     ./run refusals | tail -n 1
 // prints
-//     pocket: 18 18 0 18 18 18 18 18 18 11 18 18 18 18 11 11 11 11 0 11
+//     All-Six: 18 18 18 18 18 18 0 18 18 18 18 18 18 11 11 11 11 11 11 11 11 11 11 11 11 11 0 11 11 11 11 11
 //
 // The file stdout beside src/ has what this must print. It was worked out by hand from the rule sheet and not by this code:
 // docs/COUNTS.md has the working. Every function here is proved safe and ending; what the program prints is tested and
 // not proved.
 ghost use Prim.Native.Nat.{_≤_};
+use allsix::SixAnswer;
 use names::BoardAnswer;
 use names::FiveAnswer;
 use names::LoAnswer;
@@ -32,6 +33,8 @@ const LO: u8 = 1;
 const BOARD: u8 = 2;
 
 const POCKET: u8 = 3;
+
+const SIX: u8 = 4;
 
 // 2-3-4-5-7-8 of mixed suits, of which a question takes the first so many.
 const SOUND: [u8; 6] = [0, 5, 10, 15, 20, 25];
@@ -65,12 +68,20 @@ fn pocket_number(cards: &[u8]) -> u8 {
     }
 }
 
+fn six_number(cards: &[u8]) -> u8 {
+    match allsix::name_six(cards) {
+        SixAnswer::Name(_) => 0,
+        SixAnswer::Refused(number) => number,
+    }
+}
+
 fn number_of(entry: u8, cards: &[u8]) -> u8 {
     match entry {
         0 => five_number(cards),
         1 => lo_number(cards),
         2 => board_number(cards),
-        _ => pocket_number(cards),
+        3 => pocket_number(cards),
+        _ => six_number(cards),
     }
 }
 
@@ -126,6 +137,9 @@ fn ask_all() -> Outcome {
         return Outcome::Fault;
     }
     if !ask(b"pocket:", POCKET, 2) {
+        return Outcome::Fault;
+    }
+    if !ask(b"All-Six:", SIX, 6) {
         return Outcome::Fault;
     }
     Outcome::Done

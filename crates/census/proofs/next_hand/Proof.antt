@@ -6,7 +6,7 @@ use Rattle.census.proofs.next_hand.Statement.{statement}
 use Rattle.census.proofs.next_hand.Tie as tie
 
 abbrev Inv-loop : tie.InvT-loop
-Inv-loop last next₀ i₀ next i = (i ≤ last) × (length next ≡ 5)
+Inv-loop last next₀ i₀ next i = (i ≤ last) × (length next ≡ 6)
 
 abbrev μ-loop : tie.MeasureT-loop
 μ-loop last next₀ i₀ next i = last - i

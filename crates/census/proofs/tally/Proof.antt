@@ -5,7 +5,7 @@ use Rattle.census.proofs.tally.Statement.{statement}
 use Rattle.census.proofs.tally.Tie as tie
 
 abbrev Inv-loop : tie.InvT-loop
-Inv-loop entry size hands hand₀ counts₀ left₀ hand counts left = length hand ≡ 5
+Inv-loop entry size hands hand₀ counts₀ left₀ hand counts left = length hand ≡ 6
 
 abbrev μ-loop : tie.MeasureT-loop
 μ-loop entry size hands hand₀ counts₀ left₀ hand counts left = left

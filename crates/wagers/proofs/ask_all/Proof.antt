@@ -4,10 +4,10 @@ use Rattle.wagers.proofs.ask_all.Statement.{statement}
 use Rattle.wagers.proofs.ask_all.Tie as tie
 
 abbrev Inv-loop : tie.InvT-loop
-Inv-loop i₀ i = i ≤ 22
+Inv-loop i₀ i = i ≤ 35
 
 abbrev μ-loop : tie.MeasureT-loop
-μ-loop i₀ i = 22 - i
+μ-loop i₀ i = 35 - i
 
 loop-holds : tie.Need-loop-holds Inv-loop μ-loop
 loop-holds c = search needs
