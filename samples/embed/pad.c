@@ -8,7 +8,7 @@
 #include <stdio.h>
 #include <string.h>
 
-enum { SEAT = 2, CHOICE = 4, SEAT_WAGERS = 4 };
+enum { SEAT = 2, CHOICE = 4 };
 
 /* A round as the file of it, and what its last accepted record told. */
 struct pad {
@@ -57,9 +57,9 @@ static void print_seats(const uint8_t *file, size_t bytes, const uint64_t *resul
         if (file[at] != SEAT)
             continue;
         unsigned seat = file[at + 1];
-        const uint64_t *amounts = results + SEAT_WAGERS * (seat - 1);
+        const uint64_t *amounts = results + RIPPLEHATCH_SEAT_WAGERS * (seat - 1);
         printf("%u", seat);
-        for (int i = 0; i < SEAT_WAGERS; i++)
+        for (int i = 0; i < RIPPLEHATCH_SEAT_WAGERS; i++)
             printf(" %llu", (unsigned long long)amounts[i]);
         printf("\n");
     }

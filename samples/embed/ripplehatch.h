@@ -16,8 +16,11 @@
 extern "C" {
 #endif
 
-/* How long a results list is: seats 1 to 7, four amounts each, in cents, in the order base, Board, Pocket, Lo Ball. */
-#define RIPPLEHATCH_RESULTS 28
+/* How long a results list is: seats 1 to 7, five amounts each, in cents, in the order base, Board, Pocket, Lo Ball, All-Six. */
+#define RIPPLEHATCH_RESULTS 35
+
+/* How many amounts a seat has. */
+#define RIPPLEHATCH_SEAT_WAGERS 5
 
 /* How long a record is, in bytes. */
 #define RIPPLEHATCH_RECORD 16
@@ -32,7 +35,7 @@ extern "C" {
  * record the lowest number applies; of a held file 17 comes before all others, and 16 before 1; of cards 18 comes before 11, of a pool 19 before 20. */
 enum {
     RIPPLEHATCH_SETTLED = 0,       /* no refusal */
-    RIPPLEHATCH_LIST_LENGTH = 1,   /* the results list isn't 28 long, or the room to write into isn't as long as the held file */
+    RIPPLEHATCH_LIST_LENGTH = 1,   /* the results list isn't 35 long, or the room to write into isn't as long as the held file */
     RIPPLEHATCH_ODD_BYTES = 2,     /* the file's length isn't a multiple of 16, or the record that is handed over isn't 16 bytes */
     RIPPLEHATCH_KIND = 3,          /* a record of this kind can't come here */
     RIPPLEHATCH_NOT_ZERO = 4,      /* a byte that must be zero isn't */
@@ -40,7 +43,7 @@ enum {
     RIPPLEHATCH_PAY_TABLE = 6,     /* there is no such pay table */
     RIPPLEHATCH_SEAT = 7,          /* the seat is outside 1 to 7, or, in a seat record, not above the one before */
     RIPPLEHATCH_ANTE = 8,          /* the ante is outside the limits */
-    RIPPLEHATCH_SIDE_WAGER = 9,    /* a side wager is above the largest ante */
+    RIPPLEHATCH_SIDE_WAGER = 9,    /* a side wager is above the largest ante, or on All-Six where it isn't offered */
     RIPPLEHATCH_DECK_PART = 10,    /* the deck part isn't the next one */
     RIPPLEHATCH_CARD = 11,         /* a card is above 51, or a repeat */
     RIPPLEHATCH_CHOICE = 12,       /* the choice is above 3 */
@@ -49,7 +52,7 @@ enum {
     RIPPLEHATCH_CHOSEN = 15,       /* the seat has already chosen on this street */
     RIPPLEHATCH_UNFINISHED = 16,   /* the round isn't finished; of ripplehatch_write, the held file is empty */
     RIPPLEHATCH_NOT_HELD = 17,     /* the held bytes are no file of accepted records; only ripplehatch_take and ripplehatch_write answer so */
-    RIPPLEHATCH_HAND = 18,         /* the hand isn't five cards */
+    RIPPLEHATCH_HAND = 18,         /* the hand isn't five cards, or for All-Six six */
     RIPPLEHATCH_SHARE_LISTS = 19,  /* the lists of wins and shares differ in length, or exceed 7 */
     RIPPLEHATCH_SHARE_LIMIT = 20   /* a win is above 500,000, or the maximum above 75,000 */
 };
@@ -78,6 +81,10 @@ uint8_t ripplehatch_name_five(const uint8_t *cards, size_t count, size_t *name);
 
 /* Names five cards for Lo Ball. Answers 0, and *high is the highest rank, from 0, a two, to 12, an ace, or RIPPLEHATCH_LO_NOTHING. Else answers 18 or 11. */
 uint8_t ripplehatch_name_lo(const uint8_t *cards, size_t count, size_t *high);
+
+/* Names six cards for All-Six. Answers 0, and *name is the place of the name: 0, nine to ace of diamonds; 1, nine to ace of another suit; from 2, a royal flush, to 12,
+ * other, what the best five of the six are called. Else answers 18 or 11. */
+uint8_t ripplehatch_name_six(const uint8_t *cards, size_t count, size_t *name);
 
 /* Shares a maximum among up to seven wins, in dollars. Answers 0, and shares holds the share of each win; else answers 19 or 20. */
 uint8_t ripplehatch_share(const uint64_t *wins, size_t count, uint64_t maximum, uint64_t *shares, size_t room);

@@ -1,11 +1,14 @@
-//! The library's functions for Rust: the seven that ripplehatch.h declares, on slices and enums.
+//! The library's functions for Rust: the eight that ripplehatch.h declares, on slices and enums.
 //!
 //! A slice goes as its pointer and its length. The slices are there, and nothing that is lent to be written overlaps anything else: that is all
 //! that the library asks of a caller, so nothing here can be used wrongly.
 #![allow(dead_code)]
 
-/// How long a results list is: seats 1 to 7, four amounts each, in cents, in the order base, Board, Pocket, Lo Ball.
-pub const RESULTS: usize = 28;
+/// How long a results list is: seats 1 to 7, five amounts each, in cents, in the order base, Board, Pocket, Lo Ball, All-Six.
+pub const RESULTS: usize = 35;
+
+/// How many amounts a seat has.
+pub const SEAT_WAGERS: usize = 5;
 
 /// How long a record is, in bytes.
 pub const RECORD: usize = 16;
@@ -42,6 +45,7 @@ extern "C" {
     ) -> u8;
     fn ripplehatch_name_five(cards: *const u8, count: usize, name: &mut usize) -> u8;
     fn ripplehatch_name_lo(cards: *const u8, count: usize, high: &mut usize) -> u8;
+    fn ripplehatch_name_six(cards: *const u8, count: usize, name: &mut usize) -> u8;
     fn ripplehatch_share(
         wins: *const u64,
         count: usize,
@@ -149,6 +153,16 @@ pub fn name_lo(cards: &[u8]) -> Result<Option<usize>, u8> {
     let mut high = 0;
     match unsafe { ripplehatch_name_lo(cards.as_ptr(), cards.len(), &mut high) } {
         0 => Ok(Some(high).filter(|&rank| rank != LO_NOTHING)),
+        number => Err(number),
+    }
+}
+
+/// The place of the six cards' name for All-Six: 0 for nine to ace of diamonds, 1 for nine to ace of another suit, and from 2, a royal flush, to 12, other, what the
+/// best five of the six are called; or the refusal, 18 or 11.
+pub fn name_six(cards: &[u8]) -> Result<usize, u8> {
+    let mut name = 0;
+    match unsafe { ripplehatch_name_six(cards.as_ptr(), cards.len(), &mut name) } {
+        0 => Ok(name),
         number => Err(number),
     }
 }

@@ -5,7 +5,7 @@
 #include "ripplehatch.h"
 #include <stdio.h>
 
-enum { MOST = 65536, RECORD = 16, SEAT = 2, SEAT_WAGERS = 4 };
+enum { MOST = 65536, RECORD = 16, SEAT = 2 };
 
 static void print_seats(const uint8_t *file, size_t bytes, const uint64_t *results)
 {
@@ -13,9 +13,9 @@ static void print_seats(const uint8_t *file, size_t bytes, const uint64_t *resul
         if (file[at] != SEAT)
             continue;
         unsigned seat = file[at + 1];
-        const uint64_t *amounts = results + SEAT_WAGERS * (seat - 1);
+        const uint64_t *amounts = results + RIPPLEHATCH_SEAT_WAGERS * (seat - 1);
         printf("%u", seat);
-        for (int i = 0; i < SEAT_WAGERS; i++)
+        for (int i = 0; i < RIPPLEHATCH_SEAT_WAGERS; i++)
             printf(" %llu", (unsigned long long)amounts[i]);
         printf("\n");
     }

@@ -5,7 +5,7 @@
 
 mod ripplehatch;
 
-use ripplehatch::Answer;
+use ripplehatch::{Answer, SEAT_WAGERS};
 use std::io::Write;
 use std::process::ExitCode;
 
@@ -14,7 +14,7 @@ fn seat_lines(file: &[u8], amounts: &[u64]) -> String {
     for record in file.chunks_exact(16).filter(|record| record[0] == 2) {
         let seat = record[1] as usize;
         lines += &seat.to_string();
-        for amount in &amounts[4 * (seat - 1)..4 * seat] {
+        for amount in &amounts[SEAT_WAGERS * (seat - 1)..SEAT_WAGERS * seat] {
             lines += &format!(" {amount}");
         }
         lines += "\n";

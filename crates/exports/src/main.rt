@@ -1,12 +1,13 @@
 // Calls the functions that pads in C and in Rust link, each on inputs that are answered and on inputs that are refused.
 //
 // Standard input is the round file of document 01. Printed is a line for each call: the answer, then what is told in what was lent, where 7 stood before. The file
-// is settled whole (`file`), without its last byte (`odd`), without its table (`late`), and into 27 numbers: the number, the pool, the place, the list. Then comes
+// is settled whole (`file`), without its last byte (`odd`), without its table (`late`), and into 28 numbers: the number, the pool, the place, the list. Then comes
 // where each refused part begins and its length (`part`); what a file that is held answers to a record, and whether the round is then finished (`take`): the empty
 // file to the table, and twelve records to the last one, to the one before it again, and to that one's first 15 bytes; the whole file to one more, and the file
 // without its last byte. Then the writing of a held file, and the room as hexadecimal digits (`write`): the table alone, into 16 bytes
 // and into 15, the empty file, and a seat alone. Then what a royal flush, a straight flush, a repeat and four cards are called (`name`); what 2-3-4-5-7 and
-// 2-3-4-5-6 of mixed suits, a repeat and four cards are for Lo Ball (`lo`); and how the house's own example is shared, into two numbers, and under 75,001
+// 2-3-4-5-6 of mixed suits, a repeat and four cards are for Lo Ball (`lo`); what nine to ace of diamonds and of hearts, eight to king of
+// hearts, a repeat and five cards are for All-Six (`six`); and how the house's own example is shared, into two numbers, and under 75,001
 // (`share`). A refusal leaves each 7 but the place.
 //
 // Example:
@@ -24,6 +25,7 @@ use pipes::read_all;
 use pipes::tell;
 use ripplehatch::ripplehatch_name_five;
 use ripplehatch::ripplehatch_name_lo;
+use ripplehatch::ripplehatch_name_six;
 use ripplehatch::ripplehatch_refused_part;
 use ripplehatch::ripplehatch_settle_file;
 use ripplehatch::ripplehatch_share;
@@ -60,9 +62,9 @@ fn write_list(what: &[u8], number: u8, told: &[u64], list: &[u64]) -> bool {
 }
 
 fn ask_settle(what: &[u8], file: &[u8], room: usize) -> bool
-    requires { ⌜ room ≤ 28 ⌝ }
+    requires { ⌜ room ≤ 35 ⌝ }
 {
-    let mut results = [BEFORE; 28];
+    let mut results = [BEFORE; 35];
     let lent: &mut [u64] = &mut results[0..room];
     let mut full = BEFORE;
     let mut paid = BEFORE;
@@ -114,6 +116,12 @@ fn ask_lo(what: &[u8], cards: &[u8]) -> bool {
     write_numbers(what, &[number as u64, high as u64])
 }
 
+fn ask_six(what: &[u8], cards: &[u8]) -> bool {
+    let mut name = 7;
+    let number = ripplehatch_name_six(cards, &mut name);
+    write_numbers(what, &[number as u64, name as u64])
+}
+
 fn ask_share(what: &[u8], wins: &[u64], maximum: u64, room: usize) -> bool
     requires { ⌜ room ≤ 3 ⌝ }
 {
@@ -124,16 +132,16 @@ fn ask_share(what: &[u8], wins: &[u64], maximum: u64, room: usize) -> bool
 }
 
 fn ask_files(file: [u8; WHOLE]) -> bool {
-    if !ask_settle(b"file", &file, 28) {
+    if !ask_settle(b"file", &file, 35) {
         return false;
     }
-    if !ask_settle(b"odd", &file[0..207], 28) {
+    if !ask_settle(b"odd", &file[0..207], 35) {
         return false;
     }
-    if !ask_settle(b"late", &file[16..208], 28) {
+    if !ask_settle(b"late", &file[16..208], 35) {
         return false;
     }
-    ask_settle(b"file", &file, 27)
+    ask_settle(b"file", &file, 28)
 }
 
 fn ask_parts(file: [u8; WHOLE]) -> bool {
@@ -209,6 +217,22 @@ fn ask_los() -> bool {
     ask_lo(b"lo", &[0, 5, 10, 0])
 }
 
+fn ask_sixes() -> bool {
+    if !ask_six(b"six", &[29, 33, 37, 41, 45, 49]) {
+        return false;
+    }
+    if !ask_six(b"six", &[30, 34, 38, 42, 46, 50]) {
+        return false;
+    }
+    if !ask_six(b"six", &[26, 30, 34, 38, 42, 46]) {
+        return false;
+    }
+    if !ask_six(b"six", &[29, 33, 37, 41, 45, 29]) {
+        return false;
+    }
+    ask_six(b"six", &[29, 33, 37, 41, 45])
+}
+
 fn ask_shares() -> bool {
     let wins = [20000u64, 10000, 500];
     if !ask_share(b"share", &wins, 25000, 3) {
@@ -238,6 +262,9 @@ fn ask_all(file: [u8; WHOLE]) -> Outcome {
         return Outcome::Fault;
     }
     if !ask_los() {
+        return Outcome::Fault;
+    }
+    if !ask_sixes() {
         return Outcome::Fault;
     }
     if !ask_shares() {

@@ -2,14 +2,15 @@
 //
 // ripplehatch.h declares them. Each answers a refusal's number, or 0, and tells the rest in what the caller lends; what is not told is left as it was,
 // so a refusal changes nothing that was lent but the place. None has a `requires`.
+use allsix::name_six_told;
 use filing::rewrite_told;
 use filing::take_told;
 use names::FiveAnswer;
 use names::LoAnswer;
 use names::LoName;
+use names::five_place;
 use names::name_five;
 use names::name_lo;
-use odds::five_place;
 use pool::Shared;
 use pool::share;
 use reading::read_file;
@@ -19,6 +20,8 @@ use settlement::settle_file;
 ghost use mathlib.Core.Path.{_≡_};
 ghost use Prim.Native.Nat.{_*_};
 ghost use lib.ListN.{length};
+ghost use Rattle.allsix.specs.Six.{answerSix, sixTold};
+ghost use Rattle.hands.specs.Hand.{handRefusal};
 ghost use Rattle.filing.specs.Filed.{fileTakeRefusal, fileTakes, finishedTold, rewriteRefusal, rewriteList};
 ghost use Rattle.names.specs.Five.{answerFive, fiveNumber};
 ghost use Rattle.names.specs.Lo.{answerLo, loHigh, loNumber};
@@ -63,7 +66,7 @@ fn place_told(answer: FileSettlement, was: usize) -> usize
     }
 }
 
-// Settles a file into a list of 28 numbers. Answers 0 and tells the pool in dollars, full and as paid; or answers the refusal's number and tells its
+// Settles a file into a list of 35 numbers. Answers 0 and tells the pool in dollars, full and as paid; or answers the refusal's number and tells its
 // place.
 #[no_mangle]
 pub extern "C" fn ripplehatch_settle_file(
@@ -181,6 +184,16 @@ pub extern "C" fn ripplehatch_name_lo(cards: &[u8], high: &mut usize) -> u8
     let answer = name_lo(cards);
     *high = lo_told(answer, *high);
     lo_number(answer)
+}
+
+// Names six cards for All-Six. Answers 0 and tells the name's place: 0 for nine to ace of diamonds, 1 for nine to ace of another suit, 2 for a royal flush to 12 for
+// other; or answers 18 or 11.
+#[no_mangle]
+pub extern "C" fn ripplehatch_name_six(cards: &[u8], name: &mut usize) -> u8
+    ensures number { λ r. ⌜ r ≡ handRefusal 6 (now (cards .entry)) ⌝ }
+    ensures name { λ r. ⌜ now (name .exit) ≡ sixTold (answerSix (now (cards .entry))) (now (name .entry)) ⌝ }
+{
+    name_six_told(cards, name)
 }
 
 fn share_number(answer: Shared) -> u8
