@@ -64,8 +64,11 @@ fn print_row(work: &Work, passes: usize) {
 
 fn print_table(files: Vec<Vec<u8>>, passes: usize) -> Result<(), String> {
     let files = Rc::new(files);
+    let (with, without) = work::offering(&files);
     let mut works = vec![
-        work::settling(Rc::clone(&files))?,
+        work::settling("settling a file", Rc::clone(&files))?,
+        work::settling("settling a file that offers All-Six", with)?,
+        work::settling("the same files without All-Six", without)?,
         work::taking(Rc::clone(&files))?,
         work::writing(files)?,
     ];

@@ -19,8 +19,33 @@ pub struct Work {
 
 pub type Files = Rc<Vec<Vec<u8>>>;
 
+/// The settled files of a stream that offer All-Six, and the same files without it: the table's byte and the seats' wagers are taken out.
+pub fn offering(files: &[Vec<u8>]) -> (Files, Files) {
+    let offers = |file: &&Vec<u8>| {
+        file[7.min(file.len())..]
+            .first()
+            .is_some_and(|&table| table != 0)
+            && matches!(settle::settle(file), settle::Answer::Paid(_))
+    };
+    let with: Vec<Vec<u8>> = files.iter().filter(offers).cloned().collect();
+    let without = with.iter().map(|file| without_six(file)).collect();
+    (Rc::new(with), Rc::new(without))
+}
+
+fn without_six(file: &[u8]) -> Vec<u8> {
+    let mut file = file.to_vec();
+    for record in file.chunks_exact_mut(16) {
+        match record[0] {
+            1 => record[7] = 0,
+            2 => record[10..12].fill(0),
+            _ => {}
+        }
+    }
+    file
+}
+
 /// Settling every file of a stream.
-pub fn settling(files: Files) -> Result<Work, String> {
+pub fn settling(name: &'static str, files: Files) -> Result<Work, String> {
     for (n, file) in files.iter().enumerate() {
         if proved::settle(file) != theirs(file) {
             return Err(format!("the settlers differ at file {n}"));
@@ -31,7 +56,7 @@ pub fn settling(files: Files) -> Result<Work, String> {
     }
     let other = Rc::clone(&files);
     Ok(Work {
-        name: "settling a file",
+        name,
         calls: files.len(),
         proved: Box::new(move || each(&files, proved::settle)),
         oracle: Box::new(move || each(&other, settle::settle)),
