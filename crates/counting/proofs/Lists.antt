@@ -50,6 +50,11 @@ everyOf-at f [] e k h = absurd (omega arith)
 everyOf-at f (x ∷ xs) e zero h = and-true (f x) (everyOf f xs) e .0
 everyOf-at f (x ∷ xs) e (suc k) h = everyOf-at f xs (and-true (f x) (everyOf f xs) e .1) k (omega arith)
 
+pub at-everyOf : (f : ℕ → Bool) (xs : List ℕ) → ((k : ℕ) → k < length xs → f (getD xs k 0) ≡ true) → everyOf f xs ≡ true
+unfolding everyOf
+at-everyOf f [] h = refl
+at-everyOf f (x ∷ xs) h = both (f x) (everyOf f xs) (h 0 (omega arith)) (at-everyOf f xs (λ k l. h (suc k) (omega arith)))
+
 -- of lists that are put together
 pub count-both : (f : ℕ → Bool) (a b : List ℕ) → count f (a ++ b) ≡ count f a + count f b
 unfolding count

@@ -11,7 +11,7 @@
 // prints
 //     take refused 3 settle refused 16 write refused 16
 //
-// The items in stdin beside src/ and the lines in stdout come from the settler in oracle/, which makes both again at every test: each byte of twelve rounds is
+// The items in stdin beside src/ and the lines in stdout come from the settler in oracle/, which makes both again at every test: each byte of thirteen rounds is
 // changed to several others. Every function here is proved safe and ending; what the program prints is tested and not proved.
 use choosing::Play;
 use dealing::Deck;

@@ -12,15 +12,16 @@ use Rattle.records.specs.Seats.{plays}
 unfoldable pub playingBefore : List ℕ → ℕ → ℕ
 playingBefore antes k = tally k (plays antes)
 
--- When All-Six is offered the first four cards go to the dealer: how many lie before those of the seats
+-- When All-Six is offered the first four cards go to the dealer, three community cards, then the All-Six card, then the seats: how many lie before those of the
+-- seats
 unfoldable pub dealersFirst : ℕ → ℕ
 dealersFirst offer = if eqb offer 0 then 0 else 4
 
--- Each playing seat, lowest first, takes two cards together: where in the deck the first of them lies
+-- From the top of the deck, or behind the dealer's four, each playing seat, lowest first, takes two cards together: where the first of them lies
 abbrev pub holeAt : ℕ → List ℕ → ℕ → ℕ
 holeAt offer antes k = dealersFirst offer + 2 * playingBefore antes k
 
--- The community cards are the next three, or the dealer's first three: where the first of them lies
+-- The next three are the community cards; when All-Six is offered, the dealer's first three: where the first of them lies
 unfoldable pub communityAt : ℕ → List ℕ → ℕ
 communityAt offer antes = if eqb offer 0 then 2 * playingBefore antes 7 else 0
 
@@ -32,7 +33,7 @@ unfoldable pub community : ℕ → List ℕ → List ℕ → List ℕ
 community offer antes cards =
     getD cards (communityAt offer antes) 0 ∷ getD cards (communityAt offer antes + 1) 0 ∷ getD cards (communityAt offer antes + 2) 0 ∷ []
 
--- the All-Six card is the next after the community cards
+-- then the All-Six card, behind the community cards
 unfoldable pub sixCard : ℕ → List ℕ → List ℕ → ℕ
 sixCard offer antes cards = getD cards (communityAt offer antes + 3) 0
 

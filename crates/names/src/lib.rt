@@ -5,7 +5,7 @@
 // ranks and suits occur.
 //
 // five_by_word, board_by_word, pocket_by_word and lo_by_word name five, three or two cards, any bytes, for callers that know them to be
-// sound. They count the ranks in one word (crate words): no hand is copied. five_of, board_of, pocket_of and lo_of name a list of any length,
+// sound. They count the ranks in one word (crate words): no hand is copied. five_of_word is for a caller that has the word already. five_of, board_of, pocket_of and lo_of name a list of any length,
 // longer than a word can count, and count in it rank by rank. All answer what the definition says.
 //
 // proofs/Orders.antt has the law that the order of the cards plays no part.

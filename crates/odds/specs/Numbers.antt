@@ -1,4 +1,4 @@
--- How the code writes a table: odds to 1 as printed, and four numbers for what is printed in words, as a fraction or above them.
+-- How the code writes a table: odds to 1 as printed, and four numbers for what is printed in words, as a fraction, or doesn't fit 16 bits.
 -- Assumes nothing.
 use Prim.Native.Nat.{ℕ}
 use lib.Dec.{eqb}

@@ -1,7 +1,7 @@
 // The pay tables: what a wager's pay table says of a name.
 //
 // The tables are constant arrays, laid out as the rule sheet prints them: a line for each name, and in it the odds of each
-// pay table at the place of its number. base_pay, lo_pay, board_pay and pocket_pay choose by the table's number and
+// pay table at the place of its number. base_pay, lo_pay, board_pay, pocket_pay and six_pay choose by the table's number and
 // answer NoTable where there is none. No function has a `requires`.
 //
 // proofs/Above.antt has the rule that only a royal flush and a straight flush are paid at odds above 50, shown once, over
@@ -25,7 +25,7 @@ use names::PocketName;
 use names::five_place;
 use pays::Pay;
 
-// The tables hold odds to 1 as they are printed, and these numbers for what is printed in words or as a fraction.
+// The tables hold odds to 1 as they are printed, and these numbers for what is printed in words, as a fraction, or doesn't fit.
 const TO_200000: u16 = 65532;
 
 const THREE_TO_TWO: u16 = 65533;

@@ -22,7 +22,7 @@ use Rattle.holding.specs.Deal.{playingBefore, dealersFirst, holeAt, communityAt
 use Rattle.counting.proofs.Tallies.{tally-lt}
 
 -- where cards lie, offered or not: the dealer's first are at most four, and the community cards lie within the first 14 and 3
-first-le : (offer : ℕ) → dealersFirst offer ≤ 4
+pub first-le : (offer : ℕ) → dealersFirst offer ≤ 4
 unfolding dealersFirst
 first-le offer = go (eqb offer 0)
   where
@@ -30,7 +30,7 @@ first-le offer = go (eqb offer 0)
     go true = omega arith
     go false = omega arith
 
-community-le : (offer : ℕ) (antes : List ℕ) → communityAt offer antes ≤ 14
+pub community-le : (offer : ℕ) (antes : List ℕ) → communityAt offer antes ≤ 14
 unfolding communityAt playingBefore
 community-le offer antes = go (eqb offer 0)
   where

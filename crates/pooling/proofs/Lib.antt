@@ -5,3 +5,4 @@ pub mod Absent
 pub mod Listed
 pub mod Folded
 pub mod Unpooled
+pub mod Sound

@@ -5,4 +5,4 @@
 // such a round is within the limits of sharing, and its shares keep the laws of shares. proofs/Absent.antt: what an absent seat and a folded
 // one get. proofs/Folded.antt: a round in which both seats fold on street one, and what their side wagers hand back. proofs/Listed.antt: the pay
 // tables that a table record may name are those that are listed. proofs/Unpooled.antt: no All-Six win goes into the pool, whatever its odds; it is handed
-// back in full.
+// back in full. proofs/Sound.antt: the six cards of an All-Six hand are never refused.

@@ -135,7 +135,7 @@ impl Table {
         self.ante_fits(word_at(bytes, 2))
     }
 
-    // None of the record's side wagers is above the largest ante.
+    // None of the record's side wagers is above the largest ante, and none is on All-Six where it isn't offered.
     fn takes_sides(self, bytes: &[u8]) -> bool
         ensures { λ r. ⌜ r ≡ sidesFit self (word (now (bytes .entry)) 4) (word (now (bytes .entry)) 6) (word (now (bytes .entry)) 8) (word (now (bytes .entry)) 10) ⌝ }
     {
