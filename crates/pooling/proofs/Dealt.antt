@@ -42,7 +42,7 @@ module _ (offer : ℕ) (antes cards : List ℕ) (whole : wholeDeck cards ≡ tru
   abbrev card : ℕ → ℕ
   card i = getD cards i 0
 
-  different : (i j : ℕ) → j < i → i < 52 → card i ≡ card j → ⊥
+  pub different : (i j : ℕ) → j < i → i < 52 → card i ≡ card j → ⊥
   different i j h m = places-differ cards (no-repeat cards (whole-sound cards whole)) i (omega (arith, whole-length cards whole)) j h
 
   -- a playing seat's two cards lie before those of each later seat, and all within the deck

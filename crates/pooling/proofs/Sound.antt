@@ -1,12 +1,12 @@
 -- The six cards of a playing seat's All-Six hand are cards, and none is there twice, in either deal: they would not be refused.
 -- Assumes nothing.
-use Prim.Native.Nat.{ℕ, zero, suc, _+_, _-_, _*_, _≤_, _<_}
-use mathlib.Core.Path.{_≡_, refl, sym, ap, _∙_}
-use mathlib.Core.Bool.{Bool, true, false, not, _||_}
-use mathlib.Core.List.{List, [], _∷_}
+use Prim.Native.Nat.{ℕ, zero, suc, _+_, _-_, _*_, _<_}
+use mathlib.Core.Path.{_≡_, refl, sym, _∙_}
+use mathlib.Core.Bool.{Bool, true, false}
+use mathlib.Core.List.{List}
 use native.Mathlib.Omega.{arith}
 use lib.Dec.{eqb, ltb}
-use lib.ListN.{length, getD}
+use lib.ListN.{getD}
 use borrow.Author.Tests.{ltb-true, ltb-false, le-leb}
 use Rattle.counting.specs.Choose.{if_then_else_}
 use Rattle.counting.specs.Count.{tally, everyOf}
@@ -15,8 +15,8 @@ use Rattle.counting.proofs.Ranges.{tally-le}
 use Rattle.counting.proofs.Tallies.{tally-lt}
 use Rattle.cards.specs.Card.{isCard}
 use Rattle.cards.specs.Deck.{repeats, faulty, wholeDeck}
-use Rattle.cards.proofs.Repeats.{places-differ, differ-places}
-use Rattle.cards.proofs.Decks.{no-repeat, below-52, whole-length, whole-sound}
+use Rattle.cards.proofs.Repeats.{differ-places}
+use Rattle.cards.proofs.Decks.{below-52, whole-length, whole-sound}
 use Rattle.records.specs.Seats.{plays}
 use Rattle.hands.specs.Hand.{handRefusal}
 use Rattle.hands.proofs.Refusals.{sound-hand}
@@ -28,7 +28,7 @@ use Rattle.round.specs.declared.Round.{Round}
 use Rattle.round.specs.Order.{isFinished}
 use Rattle.led.specs.Led.{Led}
 use Rattle.led.proofs.Facts.{finished-dealt, led-deck}
-use Rattle.pooling.proofs.Dealt.{first-le, community-le}
+use Rattle.pooling.proofs.Dealt.{different, first-le, community-le}
 
 module _ (offer : ℕ) (antes cards : List ℕ) (whole : wholeDeck cards ≡ true) (k : ℕ) (seat : k < 7) (play : plays antes k ≡ true) where
   abbrev c : ℕ
@@ -77,22 +77,19 @@ module _ (offer : ℕ) (antes cards : List ℕ) (whole : wholeDeck cards ≡ tru
   six-at (suc (suc (suc (suc (suc zero))))) l = refl
   six-at (suc (suc (suc (suc (suc (suc i)))))) l = absurd (omega arith)
 
-  different : (i j : ℕ) → i < 52 → j < 52 → (i ≡ j → ⊥) → getD cards i 0 ≡ getD cards j 0 → ⊥
-  different i j l m n e = go (ltb j i) refl
+  apart : (i j : ℕ) → i < 52 → j < 52 → (i ≡ j → ⊥) → getD cards i 0 ≡ getD cards j 0 → ⊥
+  apart i j l m n e = go (ltb j i) refl
     where
-      ordered : (i j : ℕ) → j < i → i < 52 → getD cards i 0 ≡ getD cards j 0 → ⊥
-      ordered i j h l = places-differ cards (no-repeat cards (whole-sound cards whole)) i (omega (arith, whole-length cards whole)) j h
-
       go : (b : Bool) → ltb j i ≡ b → ⊥
-      go true f = ordered i j (ltb-true j i f) l e
-      go false f = ordered j i (let p = ltb-false j i f in omega (arith, n, p)) m (sym e)
+      go true f = different offer antes cards whole i j (ltb-true j i f) l e
+      go false f = different offer antes cards whole j i (let p = ltb-false j i f in omega (arith, n, p)) m (sym e)
 
   six-once : repeats (sixHand offer antes cards k) ≡ false
   unfolding sixHand sixCard community hole
   six-once =
       differ-places (sixHand offer antes cards k)
       (λ i l j h e.
-      different (at i) (at j) (at-below i l) (at-below j (omega arith)) (at-differ i j h l) (sym (six-at i l) ∙ e ∙ six-at j (omega arith)))
+      apart (at i) (at j) (at-below i l) (at-below j (omega arith)) (at-differ i j h l) (sym (six-at i l) ∙ e ∙ six-at j (omega arith)))
 
   six-cards : everyOf isCard (sixHand offer antes cards k) ≡ true
   unfolding sixHand sixCard community hole
