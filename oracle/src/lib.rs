@@ -1,5 +1,5 @@
 //! A settler for rounds of Cajun Stud and a writer of their files, written from
-//! document 01, requests a and b of document 02 and their readings as a plain
+//! document 01, requests a to c of document 02 and their readings as a plain
 //! rule sheet, with a generator of round files: it exists to be compared with
 //! another settler.
 

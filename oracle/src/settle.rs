@@ -99,7 +99,9 @@ pub(crate) fn settle_round(round: &Finished) -> Paid {
 
 /// Adds to each pooled seat its share and its wager, and tells the shares'
 /// sum. "Wagers come back besides." A win of 0 stands for a seat that is not
-/// in the pool: a pooled win is never 0, and a win of 0 changes no share.
+/// in the pool: a pooled win is never 0, and a win of 0 changes no share. It
+/// gets no dollar that is left: these are the sum of the fractions, all below 1,
+/// so that more places have a fraction than get a dollar.
 fn pay_pool(round: &Finished, wins: &[u64], amounts: &mut [u64]) -> u64 {
     let mut shares = [0; MOST_SEATS];
     if pool::share(wins, pool::maximum(round.table.smallest), &mut shares).is_err() {

@@ -9,6 +9,7 @@ use crate::generate::{Generator, Made};
 use crate::held::{Held, Step};
 use crate::held_file;
 use crate::names::{five_name, five_of_six, six_name, FiveName, SixName};
+use crate::paytables;
 use crate::pool::maximum;
 use crate::reading::{read, Finished, Seat, STREETS};
 use crate::settle::{first_result, names_of_seat, settle_round, six_cards, Paid, SeatNames};
@@ -127,8 +128,20 @@ const POOL_LEVELS: [&str; 4] = [
     "exactly at the maximum",
     "above the maximum",
 ];
-const OTHERS: [&str; 5] = [
-    "pool above the maximum, shares less than the maximum",
+/// A round has two wins in the pool at most. Equal ones leave no dollar: a
+/// maximum is even.
+const SHARES: [&str; 9] = [
+    "one win alone",
+    "no dollar left",
+    "a dollar to the lower seat, the larger win",
+    "a dollar to the lower seat, the smaller win",
+    "a dollar to the higher seat, the larger win",
+    "a dollar to the higher seat, the smaller win",
+    "equal fractions, a dollar to the lower seat, the larger win",
+    "equal fractions, a dollar to the lower seat, the smaller win",
+    "a dollar left, fractions apart by less than a hundredth",
+];
+const OTHERS: [&str; 4] = [
     "a pooled hand of a folded seat",
     "an amount with half a dollar",
     "card 0 in the last deck part",
@@ -227,6 +240,7 @@ pub struct Tally {
     pub folds: Section,
     pub pools: Section,
     pub pooled: Section,
+    pub shares: Section,
     pub seats: Section,
     pub patterns: Section,
     pub smallest: Section,
@@ -286,6 +300,7 @@ impl Tally {
             folds: Section::new("folds", FOLDS),
             pools: Section::new("pools", POOL_LEVELS),
             pooled: Section::new("pooled seats", 0..3),
+            shares: Section::new("pools above the maximum", SHARES),
             seats: Section::new("playing seats", 1..8),
             patterns: Section::new("patterns of playing seats", patterns),
             smallest: Section::new("smallest antes", 5..16),
@@ -318,7 +333,7 @@ impl Tally {
         }
     }
 
-    pub fn sections(&self) -> [&Section; 27] {
+    pub fn sections(&self) -> [&Section; 28] {
         [
             &self.answers,
             &self.taken,
@@ -329,6 +344,7 @@ impl Tally {
             &self.folds,
             &self.pools,
             &self.pooled,
+            &self.shares,
             &self.seats,
             &self.smallest,
             &self.largest,
@@ -406,11 +422,7 @@ impl Tally {
     }
 
     fn round(&mut self, round: &Finished) {
-        let Paid {
-            amounts,
-            full,
-            paid,
-        } = settle_round(round);
+        let Paid { amounts, full, .. } = settle_round(round);
         let most = maximum(round.table.smallest);
         self.pools.count(pool_level(full, most));
         self.seats.count(round.seats.len() - 1);
@@ -419,6 +431,9 @@ impl Tally {
         self.largest
             .count(place_between(25, round.table.largest.into(), 100));
         self.folds.count(fold_pattern(&round.seats));
+        if full > most {
+            self.round_shares(&pooled_wins(round, &amounts), most);
+        }
         let folded_pooled = self.round_seats(round);
         self.all_six_round(round, &amounts, pool_level(full, most));
         let all_at_once = round
@@ -426,7 +441,6 @@ impl Tally {
             .iter()
             .all(|seat| seat.folded && seat.chosen == 1);
         let marks = [
-            full > most && paid < most,
             folded_pooled,
             amounts.iter().any(|amount| amount % 100 == 50),
             round.deck[39..].contains(&0),
@@ -434,6 +448,28 @@ impl Tally {
         ];
         for (row, _) in marks.iter().enumerate().filter(|(_, mark)| **mark) {
             self.others.count(row);
+        }
+    }
+
+    /// Counts how wins above the maximum are shared.
+    fn round_shares(&mut self, pooled: &[PooledWin], most: u64) {
+        let [lower, higher] = pooled else {
+            self.shares.count(0);
+            return;
+        };
+        let total = lower.win + higher.win;
+        let has_dollar = |of: &PooledWin| of.share > most * of.win / total;
+        let [one, other] = [lower, higher].map(|of| most * of.win % total);
+        let apart = one.abs_diff(other);
+        let lower_is_smaller = usize::from(lower.win < higher.win);
+        self.shares.count(match (has_dollar(lower), apart) {
+            _ if !has_dollar(lower) && !has_dollar(higher) => 1,
+            (true, 0) => 6 + lower_is_smaller,
+            (true, _) => 2 + lower_is_smaller,
+            (false, _) => 5 - lower_is_smaller,
+        });
+        if apart > 0 && apart < total / 100 {
+            self.shares.count(8);
         }
     }
 
@@ -564,7 +600,7 @@ impl Tally {
         let mut text = format!("files {}, bytes {}", self.files, self.bytes);
         let average = self.bytes as f64 / self.files.max(1) as f64;
         let _ = writeln!(text, ", bytes a file {average:.1}");
-        for section in &self.sections()[..26] {
+        for section in &self.sections()[..27] {
             print_section(&mut text, section);
         }
         let _ = writeln!(text, "\n{}", self.ways.title);
@@ -591,6 +627,28 @@ fn answers_of_way(answers: &[u64; 17]) -> String {
         });
     }
     parts.join(", ")
+}
+
+/// A win in the pool and what is paid of it, in dollars.
+struct PooledWin {
+    win: u64,
+    share: u64,
+}
+
+/// The wins in the pool, by rising seat.
+fn pooled_wins(round: &Finished, amounts: &[u64]) -> Vec<PooledWin> {
+    let mut pooled = Vec::new();
+    let seats = round.seats.iter().enumerate();
+    for (order, seat) in seats.filter(|(_, seat)| !seat.folded) {
+        let pays = paytables::base(round.table.base, names_of_seat(round, order).five);
+        if let Some(odds) = pays.pooled_odds() {
+            pooled.push(PooledWin {
+                win: odds * seat.base_wager(),
+                share: amounts[first_result(seat)] / 100 - seat.base_wager(),
+            });
+        }
+    }
+    pooled
 }
 
 fn pool_level(full: u64, most: u64) -> usize {

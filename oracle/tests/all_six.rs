@@ -288,13 +288,14 @@ fn the_wager_changes_its_own_amount_alone() {
 }
 
 /// The round of document 01 as bytes, and with each number that its bytes for
-/// All-Six could have.
+/// All-Six could have. Seat 2's share is 4,166 2/3, with the dollar left 4,167;
+/// its wager of 1,000 comes back besides.
 #[test]
 fn the_whole_round_of_document_01() {
     let file = pack(include_str!("round01.txt")).unwrap();
     let zeros = [&file[7..16], &file[26..32], &file[42..48]].concat();
     assert_eq!(zeros, vec![0; zeros.len()]);
-    let printed = "1 2183300 20500 10500 0 0\n2 516600 0 0 0 0\npool 600000 24999\n";
+    let printed = "1 2183300 20500 10500 0 0\n2 516700 0 0 0 0\npool 600000 25000\n";
     assert_eq!(lines(&file), printed);
     let moved = dealt_with_all_six(&file, 5);
     assert_eq!(lines(&moved), printed);
@@ -303,7 +304,7 @@ fn the_whole_round_of_document_01() {
     let mut wagered = moved;
     wagered[26] = 7;
     wagered[42] = 100;
-    let printed = "1 2183300 20500 10500 0 700700\n2 516600 0 0 0 2010000\npool 600000 24999\n";
+    let printed = "1 2183300 20500 10500 0 700700\n2 516700 0 0 0 2010000\npool 600000 25000\n";
     assert_eq!(lines(&wagered), printed);
 }
 

@@ -103,12 +103,24 @@ fn each_thing_of_all_six_comes_often() {
     }
 }
 
+/// A pool above the maximum comes with each kind of shares.
+#[test]
+fn each_kind_of_shares_comes_often() {
+    let tally = Tally::of(5_000, 1);
+    for (label, count) in &tally.shares.rows {
+        assert!(*count >= 10, "{label}: {count}");
+    }
+}
+
 /// Stacks come in turn: a stretch as long as all weights together has each as
 /// often as its weight says.
 #[test]
 fn each_stack_comes_in_its_turn() {
     let total: usize = STACKS.iter().map(|stack| stack.weight).sum();
-    assert!(total % 2 != 0 && total % 5 != 0, "{total}");
+    assert!(
+        !total.is_multiple_of(2) && !total.is_multiple_of(5),
+        "{total}"
+    );
     for first in [0, 1, 1_000_000, u64::MAX - total as u64] {
         let mut counts = vec![0; STACKS.len()];
         for turn in 0..total as u64 {

@@ -112,12 +112,13 @@ fn a_seat_comes_to_a_table_without_all_six() {
 /// The board is Th Jh Qh, a straight flush at 40. Seat 1 has a royal flush on
 /// 20 × 10 = 200 dollars and A-K suited at 20, seat 2 a straight flush on
 /// 30 × 7 = 210, seat 5 three queens on 12 × 5 = 60 at 3 and a pair at 5. Of
-/// 100,000 and 21,000 under 50,000 are paid 41,322 and 8,677.
+/// 100,000 and 21,000 under 50,000 are paid 41,322 and 8,677 rounded down, with
+/// 38,000 and 83,000 parts in 121,000 over: seat 2 has the dollar left.
 #[test]
 fn the_finished_round_without_a_fold() {
-    let paid = "take refused 3 settle paid 4152200 20500 10500 0 0 888700 0 0 0 0 \
+    let paid = "take refused 3 settle paid 4152200 20500 10500 0 0 888800 0 0 0 0 \
                 0 0 0 0 0 0 0 0 0 0 24000 0 35400 0 0 0 0 0 0 0 0 0 0 0 0 \
-                pool 121000 49999 write ";
+                pool 121000 50000 write ";
     assert!(line(&items_of(&base("finished, no fold"))[0]).starts_with(paid));
 }
 

@@ -74,19 +74,28 @@ fn all_six_odds_of_appendix_e() {
 #[test]
 fn p14_and_other_shares() {
     let mut shares = [0; 3];
+    // Rounded down 16,393, 8,196 and 409 with 13,500, 22,000 and 25,500 parts in
+    // 30,500 over: the two dollars left go to the third and the second.
     assert_eq!(share(&[20_000, 10_000, 500], 25_000, &mut shares), Ok(()));
-    assert_eq!(shares, [16_393, 8_196, 409]);
+    assert_eq!(shares, [16_393, 8_197, 410]);
     assert_eq!(share(&[20_000, 4_500, 500], 25_000, &mut shares), Ok(()));
     assert_eq!(shares, [20_000, 4_500, 500], "exactly at the maximum");
     assert_eq!(share(&[20_000, 4_501, 500], 25_000, &mut shares), Ok(()));
-    assert_eq!(shares, [19_999, 4_500, 499]);
+    // Each is short of its win by the win's parts in 25,001. Rounded down they
+    // are 19,999, 4,500 and 499: two dollars are left, and the largest win has
+    // the smallest fraction.
+    assert_eq!(shares, [19_999, 4_501, 500]);
     assert_eq!(share(&[5, 0, 7], 0, &mut shares), Ok(()));
     assert_eq!(shares, [0, 0, 0]);
     assert_eq!(share(&[0, 0, 0], 0, &mut shares), Ok(()));
     assert_eq!(shares, [0, 0, 0]);
     let mut seven = [1; 7];
     assert_eq!(share(&[500_000; 7], 75_000, &mut seven), Ok(()));
-    assert_eq!(seven, [10_714; 7]);
+    // 75,000 is 7 × 10,714 and 2.
+    assert_eq!(
+        seven,
+        [10_715, 10_715, 10_714, 10_714, 10_714, 10_714, 10_714]
+    );
     assert_eq!(share(&[], 75_000, &mut []), Ok(()));
 }
 
@@ -104,19 +113,21 @@ fn sharing_refusals() {
     assert_eq!(shares, [9; 8], "a refusal changes no lent list");
 }
 
+/// Of 25,000 the wins of 500,000 and 100,000 get 20,833 1/3 and 4,166 2/3: seat 2
+/// has the dollar left, 4,167 and its wager of 1,000.
 #[test]
 fn the_whole_round_of_document_01() {
     let file = pack(include_str!("round01.txt")).unwrap();
     assert_eq!(file.len(), 13 * 16);
-    let printed = "1 2183300 20500 10500 0 0\n2 516600 0 0 0 0\npool 600000 24999\n";
+    let printed = "1 2183300 20500 10500 0 0\n2 516700 0 0 0 0\npool 600000 25000\n";
     assert_eq!(lines(&file), printed);
     let mut amounts = [0; 35];
     amounts[..4].copy_from_slice(&[2_183_300, 20_500, 10_500, 0]);
-    amounts[5] = 516_600;
+    amounts[5] = 516_700;
     let answer = Answer::Paid(Paid {
         amounts,
         full: 600_000,
-        paid: 24_999,
+        paid: 25_000,
     });
     assert_eq!(settle(&file), answer);
     assert_eq!(refused_part(&file), (208, &[][..]));
@@ -177,6 +188,84 @@ fn the_pool_at_its_maximum_and_just_above() {
     let head = ONE.to_string() + "seat 1 ante 6 board 0 pocket 0 lo 0";
     let above = round(&head, "Th Jh Qh Kh Ah", raises);
     assert_eq!(lines(&above), "1 2506000 0 0 0 0\npool 30000 25000\n");
+}
+
+/// The board is 5h 6h 7h: 5 to 9 and 3 to 7 of hearts.
+const STRAIGHT_FLUSHES: &str = "8h 9h 3h 4h 5h 6h 7h";
+/// The board is Th Jh Qh, the royal flush the lower seat's or the higher one's.
+const ROYAL_LOWER: &str = "Ah Kh 8h 9h Th Jh Qh";
+const ROYAL_HIGHER: &str = "8h 9h Ah Kh Th Jh Qh";
+
+/// What is printed for seats 2 and 6 at a 5 dollar table, whose maximum is
+/// 25,000, each with its ante and raises.
+fn two_share(top: &str, seats: [(u64, [u8; 3]); 2]) -> String {
+    let [lower, higher] = seats;
+    let head = format!(
+        "{ONE}seat 2 ante {} board 0 pocket 0 lo 0\nseat 6 ante {} board 0 pocket 0 lo 0",
+        lower.0, higher.0
+    );
+    let mut choices = String::new();
+    for (raise, other) in lower.1.iter().zip(higher.1) {
+        choices += &format!("choice 2 raise {raise}\nchoice 6 raise {other}\n");
+    }
+    lines(&round(&head, top, &choices))
+}
+
+/// What is printed where seats 2 and 6 have these wagers back and these shares
+/// of a pool, in dollars.
+fn shares(wagers: [u64; 2], shares: [u64; 2], full: u64) -> String {
+    let [lower, higher] = [0, 1].map(|seat| 100 * (wagers[seat] + shares[seat]));
+    format!("2 {lower} 0 0 0 0\n6 {higher} 0 0 0 0\npool {full} 25000\n")
+}
+
+/// Wagers of 20 × 10 and 10 × 10 dollars at 100, and of 100 × 10 at 500 and 100.
+#[test]
+fn the_dollar_left_goes_to_the_larger_fraction() {
+    let [ten, twenty, hundred] = [10, 20, 100].map(|ante| (ante, [3; 3]));
+    // 16,666 2/3 and 8,333 1/3.
+    let printed = shares([200, 100], [16_667, 8_333], 30_000);
+    assert_eq!(two_share(STRAIGHT_FLUSHES, [twenty, ten]), printed);
+    let printed = shares([100, 200], [8_333, 16_667], 30_000);
+    assert_eq!(two_share(STRAIGHT_FLUSHES, [ten, twenty]), printed);
+    // 20,833 1/3 and 4,166 2/3.
+    let printed = shares([1_000; 2], [20_833, 4_167], 600_000);
+    assert_eq!(two_share(ROYAL_LOWER, [hundred; 2]), printed);
+    let printed = shares([1_000; 2], [4_167, 20_833], 600_000);
+    assert_eq!(two_share(ROYAL_HIGHER, [hundred; 2]), printed);
+}
+
+/// Wagers of 25 × 7 = 175 and 25 × 9 = 225 dollars at 100. Of 40,000 the wins of
+/// 17,500 and 22,500 get 10,937 1/2 and 14,062 1/2.
+#[test]
+fn the_dollar_left_of_equal_fractions_goes_to_the_lower_seat() {
+    let [seven, nine] = [[2, 2, 2], [3, 3, 2]].map(|raises| (25, raises));
+    let printed = shares([175, 225], [10_938, 14_062], 40_000);
+    assert_eq!(two_share(STRAIGHT_FLUSHES, [seven, nine]), printed);
+    let printed = shares([225, 175], [14_063, 10_937], 40_000);
+    assert_eq!(two_share(STRAIGHT_FLUSHES, [nine, seven]), printed);
+}
+
+/// Wagers of 77 × 7 = 539 and 62 × 9 = 558 dollars at 100. In parts of 109,700
+/// 25,000 × 53,900 is 12,283 dollars and 54,900, 25,000 × 55,800 is 12,716 and
+/// 54,800.
+#[test]
+fn the_dollar_left_of_nearly_equal_fractions() {
+    let [smaller, larger] = [(77, [1, 2, 3]), (62, [2, 3, 3])];
+    let printed = shares([539, 558], [12_284, 12_716], 109_700);
+    assert_eq!(two_share(STRAIGHT_FLUSHES, [smaller, larger]), printed);
+    let printed = shares([558, 539], [12_716, 12_284], 109_700);
+    assert_eq!(two_share(STRAIGHT_FLUSHES, [larger, smaller]), printed);
+}
+
+/// Wins of 10,000 and 30,000 get a quarter and three quarters of the maximum,
+/// equal wins half of it each.
+#[test]
+fn no_dollar_is_left() {
+    let [ten, thirty] = [10, 30].map(|ante| (ante, [3; 3]));
+    let printed = shares([100, 300], [6_250, 18_750], 40_000);
+    assert_eq!(two_share(STRAIGHT_FLUSHES, [ten, thirty]), printed);
+    let printed = shares([300; 2], [12_500; 2], 60_000);
+    assert_eq!(two_share(STRAIGHT_FLUSHES, [thirty; 2]), printed);
 }
 
 #[test]

@@ -50,7 +50,7 @@ fn stream_of(files: &[&[u8]]) -> Vec<u8> {
 
 #[test]
 fn settles_one_file() {
-    let lines = "1 2183300 20500 10500 0 0\n2 516600 0 0 0 0\npool 600000 24999\n";
+    let lines = "1 2183300 20500 10500 0 0\n2 516700 0 0 0 0\npool 600000 25000\n";
     assert_eq!(printed(&["settle"], &round()), lines);
     assert_eq!(printed(&["settle"], &[]), "refused 16 at 0\n");
     assert_eq!(printed(&["settle"], &[1; 33]), "refused 2 at 2\n");
@@ -122,7 +122,7 @@ fn answers_a_stream() {
     let stream = stream_of(&[&round(), &[], &bad, &[0xab, 0x0c], &round()[..32]]);
     let zeros = " 0".repeat(25);
     let paid = format!(
-        "paid 2183300 20500 10500 0 0 516600 0 0 0 0{zeros} pool 600000 24999 part 208 \
+        "paid 2183300 20500 10500 0 0 516700 0 0 0 0{zeros} pool 600000 25000 part 208 \
          take finished written 13"
     );
     let lines = [

@@ -167,7 +167,8 @@ pub fn name_six(cards: &[u8]) -> Result<usize, u8> {
     }
 }
 
-/// Shares a maximum among up to seven wins, in dollars; or the refusal, 19 or 20, which leaves the shares as they were.
+/// Shares a maximum among up to seven wins, in dollars: all in full where they are within it, else what comes to exactly the maximum; or the refusal, 19 or 20,
+/// which leaves the shares as they were.
 pub fn share(wins: &[u64], maximum: u64, shares: &mut [u64]) -> Result<(), u8> {
     let number = unsafe {
         ripplehatch_share(

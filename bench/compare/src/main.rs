@@ -74,6 +74,8 @@ fn print_table(files: Vec<Vec<u8>>, passes: usize) -> Result<(), String> {
     ];
     works.extend(naming::namings()?);
     works.push(work::sharing()?);
+    works.push(work::sharing_seven()?);
+    work::sharing_ties()?;
     println!("| Work | inputs | proved, each | oracle, each | ratio |");
     println!("|---|---|---|---|---|");
     for work in &works {

@@ -144,18 +144,33 @@ fn each<A>(files: &[Vec<u8>], answer: impl Fn(&[u8]) -> A) {
 
 /// Sharing the maximum among wins: pools of none to eight wins, within their limits and beyond, below the maximum and above.
 pub fn sharing() -> Result<Work, String> {
-    let pools = Rc::new(pools());
-    for wins in pools.iter() {
-        let (mut ours, mut theirs) = (vec![9; wins.len()], vec![9; wins.len()]);
-        let same =
-            proved::share(wins, MAXIMUM, &mut ours) == pool::share(wins, MAXIMUM, &mut theirs);
-        if !same || ours != theirs {
-            return Err(format!("the shares differ of {wins:?}"));
-        }
+    shared("sharing a pool", pools())
+}
+
+/// Sharing it among seven wins that come to more.
+pub fn sharing_seven() -> Result<Work, String> {
+    shared("sharing seven wins above the maximum", pools_of_seven())
+}
+
+/// Small wins under small maximums, whose fractions are often equal. These are compared, and not timed.
+pub fn sharing_ties() -> Result<(), String> {
+    let mut draws = Draws::from(2);
+    for _ in 0..400_000 {
+        let (maximum, wins) = (draws.below(60) as u64, draws.below(8));
+        let wins: Vec<u64> = (0..wins).map(|_| draws.below(16) as u64).collect();
+        same_shares(&wins, maximum)?;
     }
+    Ok(())
+}
+
+fn shared(name: &'static str, pools: Vec<Vec<u64>>) -> Result<Work, String> {
+    for wins in &pools {
+        same_shares(wins, MAXIMUM)?;
+    }
+    let pools = Rc::new(pools);
     let other = Rc::clone(&pools);
     Ok(Work {
-        name: "sharing a pool",
+        name,
         calls: pools.len(),
         proved: Box::new(move || {
             each_pool(&pools, |wins, shares| proved::share(wins, MAXIMUM, shares))
@@ -164,6 +179,16 @@ pub fn sharing() -> Result<Work, String> {
             each_pool(&other, |wins, shares| pool::share(wins, MAXIMUM, shares))
         }),
     })
+}
+
+fn same_shares(wins: &[u64], maximum: u64) -> Result<(), String> {
+    let (mut ours, mut theirs) = (vec![9; wins.len()], vec![9; wins.len()]);
+    let same = proved::share(wins, maximum, &mut ours) == pool::share(wins, maximum, &mut theirs);
+    if same && ours == theirs {
+        Ok(())
+    } else {
+        Err(format!("the shares of {maximum} differ of {wins:?}"))
+    }
 }
 
 const MAXIMUM: u64 = 25_000;
@@ -183,5 +208,12 @@ fn pools() -> Vec<Vec<u64>> {
             let (wins, most) = (draws.below(9), [1_000, 20_000, 500_001][draws.below(3)]);
             (0..wins).map(|_| draws.below(most) as u64).collect()
         })
+        .collect()
+}
+
+fn pools_of_seven() -> Vec<Vec<u64>> {
+    let mut draws = Draws::from(3);
+    (0..100_000)
+        .map(|_| (0..7).map(|_| 5_000 + draws.below(495_001) as u64).collect())
         .collect()
 }

@@ -100,5 +100,5 @@ cases =
     ∷ loBall 1 (0 ∷ 5 ∷ 10 ∷ 15 ∷ 40 ∷ []) Loss
     ∷ loBall 2 (0 ∷ 5 ∷ 10 ∷ 15 ∷ 40 ∷ []) Push
     -- P14: the three shares of the house example
-    ∷ shares (20000 ∷ 10000 ∷ 500 ∷ []) 25000 (16393 ∷ 8196 ∷ 409 ∷ [])
+    ∷ shares (20000 ∷ 10000 ∷ 500 ∷ []) 25000 (16393 ∷ 8197 ∷ 410 ∷ [])
     ∷ []

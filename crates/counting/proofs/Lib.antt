@@ -11,3 +11,4 @@ pub mod Gathers
 pub mod Fills
 pub mod Stores
 pub mod Tallies
+pub mod Ranks

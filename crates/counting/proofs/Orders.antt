@@ -1,15 +1,15 @@
--- The same things in another order: put together, one more in a list that is gathered; as many, and as many that pass a test.
+-- The same things in another order: put together, one more in a list that is gathered; as many, as many that pass a test, and the same total.
 -- Assumes nothing.
 use Prim.Native.Nat.{ℕ, zero, suc, _+_, _<_}
 use mathlib.Core.Path.{_≡_, refl, ap, sym, subst, _∙_}
 use mathlib.Core.Bool.{Bool, true, false, _&&_}
-use mathlib.Core.List.{List, [], _∷_, _++_, append-assoc, append-nil}
+use mathlib.Core.List.{List, [], _∷_, _++_, map, append-assoc, append-nil}
 use native.Mathlib.Omega.{arith}
 use lib.Dec.{eqb}
 use lib.ListN.{length}
 use borrow.Author.Tests.{eqb-true, eqb-false}
 use Rattle.counting.specs.Choose.{one}
-use Rattle.counting.specs.Count.{count, everyOf, gather}
+use Rattle.counting.specs.Count.{count, everyOf, total, gather}
 use Rattle.counting.specs.Order.{Reordered}
 use Rattle.counting.specs.Order.Reordered.{none, keep, swap, then}
 use Rattle.counting.proofs.Gathers.{gather-same}
@@ -91,3 +91,16 @@ reordered-every f none = refl
 reordered-every f (keep {x} p) = ap (λ (b : Bool). f x && b) (reordered-every f p)
 reordered-every f (swap {x} {y} {xs}) = and-swap (f x) (f y) (everyOf f xs)
 reordered-every f (then p q) = reordered-every f p ∙ reordered-every f q
+
+pub reordered-total : {xs ys : List ℕ} → Reordered xs ys → total xs ≡ total ys
+unfolding total
+reordered-total none = refl
+reordered-total (keep {x} p) = ap (λ (n : ℕ). x + n) (reordered-total p)
+reordered-total (swap {x} {y} {xs}) = omega arith
+reordered-total (then p q) = reordered-total p ∙ reordered-total q
+
+pub reordered-map : (f : ℕ → ℕ) {xs ys : List ℕ} → Reordered xs ys → Reordered (map f xs) (map f ys)
+reordered-map f none = none
+reordered-map f (keep p) = keep (reordered-map f p)
+reordered-map f swap = swap
+reordered-map f (then p q) = then (reordered-map f p) (reordered-map f q)

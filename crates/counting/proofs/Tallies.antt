@@ -10,7 +10,7 @@ use lib.Dec.{eqb}
 use lib.ListN.{length, getD}
 use borrow.Author.Tests.{eqb-true, eqb-false}
 use Rattle.counting.specs.Choose.{one}
-use Rattle.counting.specs.Count.{tally, sumBelow, everyOf, total, gather, each}
+use Rattle.counting.specs.Count.{tally, sumBelow, count, everyOf, total, gather, each}
 use Rattle.counting.proofs.Tests.{both}
 use Rattle.counting.proofs.Ranges.{below-suc}
 use Rattle.counting.proofs.Lists.{everyOf-both}
@@ -37,6 +37,26 @@ module _ (f : ℕ → Bool) where
   tally-lt (suc n) k h e =
       below-suc (λ i. f i ≡ true → tally i f < one (f n) + tally n f) n k h
       (λ q. omega (arith, ap one q)) (λ l q. omega (arith, tally-lt n k l q)) e
+
+-- the first apart from the others
+tally-front : (n : ℕ) (f : ℕ → Bool) → tally (suc n) f ≡ one (f 0) + tally n (λ k. f (suc k))
+unfolding tally
+tally-front zero f = refl
+tally-front (suc n) f = omega (arith, tally-front n f)
+
+-- as many of a list pass as places that have one that does
+pub tally-count : (f : ℕ → Bool) (l : List ℕ) → tally (length l) (λ k. f (getD l k 0)) ≡ count f l
+unfolding tally count
+tally-count f [] = refl
+tally-count f (x ∷ l) = tally-front (length l) (λ k. f (getD (x ∷ l) k 0)) ∙ ap (λ (n : ℕ). one (f x) + n) (tally-count f l)
+
+-- where none passes from place n on
+pub tally-cut : (n m : ℕ) (f : ℕ → Bool) → ((k : ℕ) → n ≤ k → k < m + n → f k ≡ false) → tally (m + n) f ≡ tally n f
+unfolding tally
+tally-cut n zero f none = let e : 0 + n ≡ n = omega arith in rw e
+tally-cut n (suc m) f none =
+    let e : suc m + n ≡ suc (m + n) = omega arith in
+    rw e (omega (arith, ap one (none (m + n) (omega arith) (omega arith)), tally-cut n m f (λ k p q. none k p (omega arith))))
 
 -- ---- sums
 

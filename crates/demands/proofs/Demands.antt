@@ -44,10 +44,10 @@ use Rattle.settlement.specs.declared.FileSettlement.{FileSettlement}
 use Rattle.settlement.specs.declared.FileSettlement.the-variants.{Paid as PaidFile}
 use Rattle.settlement.specs.Settle.{settleAnswer, settleList, settleNumber, readAnswer, readList, fileAnswer, fileList, prefixAnswer, prefixList, fileNumber, filePlace}
 use Rattle.demands.specs.Floor.{floorOf, paidOf, Demand3}
-use Rattle.demands.specs.Whole.{wholeFile, wholeRound}
+use Rattle.demands.specs.Whole.{wholeFile, wholeRound, lowerFile, lowerRound}
 use Rattle.demands.proofs.Settled.{settle-left, settled, settle-paid, read-left, read-done, read-paid, read-most, refused-place}
 use Rattle.demands.proofs.Taken.{take-left, take-feeds}
-use Rattle.demands.proofs.Whole.{whole-even, whole-leads, whole-finished, whole-pool, whole-results, floor-reached}
+use Rattle.demands.proofs.Whole.{whole-even, whole-leads, whole-finished, whole-pool, whole-results, whole-floors, lower-even, lower-leads, lower-finished, lower-floor}
 use Rattle.demands.proofs.Third.{demand-3}
 
 -- ==== Demand 1. Every input gets an answer. Each entry checks what it is handed and refuses by number;
@@ -241,18 +241,27 @@ whole-accepted lent room = led-accepted-file wholeFile lent wholeRound whole-eve
 
 -- These are the answer to its file and the list that is then given, a seat on each line.
 pub whole-file : (lent : List ℕ) → length lent ≡ resultsLong
-    → (fileAnswer wholeFile (length lent) ≡ PaidFile 600000 24999)
+    → (fileAnswer wholeFile (length lent) ≡ PaidFile 600000 25000)
     × (fileList wholeFile lent ≡ 2183300 ∷ 20500 ∷ 10500 ∷ 0 ∷ 0
-    ∷ 516600 ∷ 0 ∷ 0 ∷ 0 ∷ 0
+    ∷ 516700 ∷ 0 ∷ 0 ∷ 0 ∷ 0
     ∷ 0 ∷ 0 ∷ 0 ∷ 0 ∷ 0
     ∷ 0 ∷ 0 ∷ 0 ∷ 0 ∷ 0
     ∷ 0 ∷ 0 ∷ 0 ∷ 0 ∷ 0
     ∷ 0 ∷ 0 ∷ 0 ∷ 0 ∷ 0
     ∷ 0 ∷ 0 ∷ 0 ∷ 0 ∷ 0 ∷ [])
 whole-file lent room =
-    let a = whole-accepted lent room in (rw (whole-pool .0, whole-pool .1) at (a .answered), a .listed ∙ whole-results)
+    let a = whole-accepted lent room in (rw whole-pool at (a .answered), a .listed ∙ whole-results)
 
--- The floor is reached: there seat 2 is paid its floor of 4,166 dollars and no more.
+-- There seat 1, with the royal flush, is paid its floor of 20,833 dollars and no more; the dollar that is left is seat 2's, whose floor is 4,166.
 pub floor-is-paid : (lent : List ℕ) → length lent ≡ resultsLong
-    → (floorOf (wholeRound .table) (isRoyal (handOf wholeRound 1)) (win wholeRound 1) ≡ 4166) × (paidOf wholeRound (fileList wholeFile lent) 1 ≡ 100 * 4166)
-floor-is-paid lent room = (floor-reached .0, rw (whole-accepted lent room .listed) (floor-reached .1))
+    → (floorOf (wholeRound .table) (isRoyal (handOf wholeRound 0)) (win wholeRound 0) ≡ 20833) × (paidOf wholeRound (fileList wholeFile lent) 0 ≡ 100 * 20833)
+    × (floorOf (wholeRound .table) (isRoyal (handOf wholeRound 1)) (win wholeRound 1) ≡ 4166) × (paidOf wholeRound (fileList wholeFile lent) 1 ≡ 100 * 4167)
+floor-is-paid lent room = rw (whole-accepted lent room .listed) whole-floors
+
+-- A straight flush reaches its floor too: where seat 2 raises 2 antes on streets two and three, the dollar left is seat 1's.
+pub lower-accepted : (lent : List ℕ) → length lent ≡ resultsLong → AcceptedFile lowerFile lent lowerRound
+lower-accepted lent room = led-accepted-file lowerFile lent lowerRound lower-even room lower-leads lower-finished
+
+pub lower-floor-is-paid : (lent : List ℕ) → length lent ≡ resultsLong
+    → (floorOf (lowerRound .table) (isRoyal (handOf lowerRound 1)) (win lowerRound 1) ≡ 3448) × (paidOf lowerRound (fileList lowerFile lent) 1 ≡ 100 * 3448)
+lower-floor-is-paid lent room = rw (lower-accepted lent room .listed) lower-floor

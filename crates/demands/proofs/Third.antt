@@ -51,6 +51,11 @@ module _ (r : Round) where
       let long = shared r l .long ∙ wins-long r in
       rw (total-sum (pool r .shares) 7 long) (sum-times 100 7 (paidOf r (results r)) (λ k. getD (pool r .shares) k 0) paid-at)
 
+-- the pool is the sum of the full wins
+pool-full : (r : Round) → total (wins r) ≡ sumBelow 7 (win r)
+unfolding wins
+pool-full r = each-total (win r) 7
+
 -- ---- the floor
 
 -- with a royal flush here there is none there
@@ -71,8 +76,7 @@ module _ (r : Round) (l : Led r) (e : isFinished r ≡ true) where
     other i m q d = beside (r .table) royal (isRoyal (handOf r i)) (win r i) (one-royal r l e k i (λ z. d (sym z)) h m p q) (win-most r l i m)
 
     pool-most : total (wins r) ≤ win r k + otherWin (r .table) royal
-    unfolding wins
-    pool-most = rw (each-total (win r) 7) (sum-two (pooled r) (win r) (otherWin (r .table) royal) k 7 h (few r l e) p (win-none r) other)
+    pool-most = rw (pool-full r) (sum-two (pooled r) (win r) (otherWin (r .table) royal) k 7 h (few r l e) p (win-none r) other)
 
     share-least : floorOf (r .table) royal (win r k) ≤ getD (pool r .shares) k 0
     unfolding floorOf
@@ -91,6 +95,7 @@ module _ (r : Round) (l : Led r) (e : isFinished r ≡ true) where
         few = omega (arith, few r l e);
         top = λ k h p. is-royal-or (handOf r k) (pooled-top r l k h p);
         together = omega (arith, pool-paid r l, shares-within r l);
+        exactly = λ over. let all = shared r l .exactly (rw (pool-full r) over) in omega (arith, pool-paid r l);
         noMore = λ k h p. omega (arith, paid-at r k h, share-most r k h);
         wagerBack = λ k h p. omega (arith, pooled-at r k h p);
         floor = λ k h p. omega (arith, paid-at r k h, share-least k h p);

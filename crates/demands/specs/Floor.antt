@@ -40,6 +40,8 @@ pub record Demand3 (r : Round) (amounts : List ℕ) : Type 0 where
   pub top : (k : ℕ) → k < 7 → pooled r k ≡ true → (handOf r k ≡ RoyalFlush) ⊎ (handOf r k ≡ StraightFlush)
   -- Together those wins are paid no more than the maximum,
   pub together : sumBelow 7 (paidOf r amounts) ≤ 100 * maximum (r .table)
+  -- whenever the pool exceeds the maximum, exactly the maximum is paid,
+  pub exactly : maximum (r .table) < sumBelow 7 (win r) → sumBelow 7 (paidOf r amounts) ≡ 100 * maximum (r .table)
   -- and neither more than its full win; the wager comes back besides.
   pub noMore : (k : ℕ) → k < 7 → pooled r k ≡ true → paidOf r amounts k ≤ 100 * win r k
   pub wagerBack : (k : ℕ) → k < 7 → pooled r k ≡ true → 100 * baseWager r k ≤ getD amounts (seatWagers * k) 0

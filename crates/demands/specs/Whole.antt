@@ -1,7 +1,8 @@
--- The whole round of document 01, as a file and as the round that its records lead to.
+-- The whole round of document 01, as a file and as the round that its records lead to; and the same round with lower raises.
 -- Assumes nothing.
 use Prim.Native.Nat.{ℕ}
 use mathlib.Core.List.{List, [], _∷_}
+use lib.ListN.{set}
 use Rattle.round.specs.declared.Round.{Round}
 
 -- Its 13 records, each on a line: the table, two seats, the deck in four parts, and six choices.
@@ -43,5 +44,23 @@ wholeRound =
             ∷ 3 ∷ 3 ∷ 0 ∷ 0 ∷ 0 ∷ 0 ∷ 0
             ∷ 3 ∷ 3 ∷ 0 ∷ 0 ∷ 0 ∷ 0 ∷ 0 ∷ [];
         folds = 0 ∷ 0 ∷ 0 ∷ 0 ∷ 0 ∷ 0 ∷ 0 ∷ [];
+      };
+    }
+
+-- The same with seat 2 raising 2 and not 3 antes on streets two and three: the third bytes of its last two records.
+unfoldable pub lowerFile : List ℕ
+lowerFile = set (set wholeFile 162 2) 194 2
+
+unfoldable pub lowerRound : Round
+lowerRound =
+    record {
+      table = wholeRound .table;
+      wagers = wholeRound .wagers;
+      deck = wholeRound .deck;
+      play = record {
+        raises = 3 ∷ 3 ∷ 0 ∷ 0 ∷ 0 ∷ 0 ∷ 0
+            ∷ 3 ∷ 2 ∷ 0 ∷ 0 ∷ 0 ∷ 0 ∷ 0
+            ∷ 3 ∷ 2 ∷ 0 ∷ 0 ∷ 0 ∷ 0 ∷ 0 ∷ [];
+        folds = wholeRound .play .folds;
       };
     }

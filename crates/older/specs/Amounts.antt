@@ -59,6 +59,7 @@ oldKept r k =
     else if staysIn r k then handedBack (oldBasePay r k) (baseWager r k)
     else 0
 
+-- shared as every pool is
 unfoldable pub oldPool : Round → Pool
 oldPool r = poolOf (each 7 (oldWin r)) (maximum (r .table))
 

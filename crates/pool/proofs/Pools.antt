@@ -21,7 +21,7 @@ all-within maximum wins shares s = go (leb (total wins) maximum) refl
   where
     go : (full : Bool) → leb (total wins) maximum ≡ full → total shares ≤ maximum
     go true e = let fits = leb-true (total wins) maximum e in rw (s .inFull fits) fits
-    go false e = s .within (leb-false (total wins) maximum e)
+    go false e = omega (arith, s .exactly (leb-false (total wins) maximum e))
 
 module _ (wins : List ℕ) (maximum : ℕ) where
   pub pool-refused : (shareRefusal wins maximum 7 ≡ 0 → ⊥) → poolOf wins maximum ≡ refusedPool (shareRefusal wins maximum 7)

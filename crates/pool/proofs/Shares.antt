@@ -1,70 +1,188 @@
 -- What a caller may know of a pool that is shared, and which pools are shared.
 -- Assumes nothing.
-use Prim.Native.Nat.{ℕ, _*_, _/_, _≤_, _<_}
-use mathlib.Core.Path.{_≡_, refl, ap, _∙_}
-use mathlib.Core.Bool.{Bool, true, false, not, _||_}
+use Prim.Native.Nat.{ℕ, _+_, _≤_, _<_}
+use mathlib.Core.Path.{_≡_, refl, ap, sym, _∙_}
+use mathlib.Core.Bool.{Bool, true, false, not, _&&_, _||_}
 use mathlib.Core.List.{List, [], _∷_, map}
 use native.Mathlib.Omega.{arith}
-use native.Mathlib.Nat.{add-mul, mul-add, mul-le-mul-right, le-of-mul-le-mul-right, div-mul-le-self, div-le-of-le-mul}
 use lib.Dec.{eqb, leb, ltb}
-use lib.ListN.{length, getD, length-map, List·getD-map}
-use borrow.Author.Tests.{le-leb, lt-leb, leb-true, leb-false, le-ltb, ltb-false, eq-eqb, ne-eqb, eqb-true, not-false}
-use Rattle.counting.specs.Choose.{if_then_else_}
-use Rattle.counting.specs.Count.{total}
-use Rattle.counting.proofs.Tests.{or-false, neither}
+use lib.ListN.{length, getD, length-map, List·getD-eq-default}
+use borrow.Author.Tests.{le-leb, lt-leb, leb-true, leb-false, lt-ltb, le-ltb, ltb-true, ltb-false, eq-eqb, ne-eqb, eqb-true, not-false}
+use Rattle.counting.specs.Choose.{if_then_else_, one}
+use Rattle.counting.specs.Count.{tally, total, gather, each}
+use Rattle.counting.proofs.Tests.{clash, and-true, both, one-le, or-false, neither}
 use Rattle.counting.proofs.Answers.{by-number}
+use Rattle.counting.proofs.Ranges.{tally-le}
+use Rattle.counting.proofs.Gathers.{gather-same, each-length, each-at, each-of}
+use Rattle.counting.proofs.Sums.{sum-add, sum-same, tally-sum}
+use Rattle.counting.proofs.Tallies.{total-sum}
+use Rattle.counting.proofs.Ranks.{tally-weaker, rank-less, first-many}
 use Rattle.pool.specs.declared.Shared.{Shared}
 use Rattle.pool.specs.declared.Shared.the-variants.{Full, Cut, Refused}
-use Rattle.pool.specs.Pool.{shareOf, sharesOf, winsFit, shareRefusal, shareAnswer, shareList, numberOf}
-use Rattle.pool.specs.Shares.{Shares}
+use Rattle.pool.specs.Pool.{roundedDown, fractionAt, dollarsLeft, standsBefore, ahead, getsOne, shareOf, sharesOf, winsFit, shareRefusal, shareAnswer, shareList, numberOf}
+use Rattle.pool.specs.Shares.{roundedAt, Shares}
+use Rattle.pool.proofs.Rounded.{rounded-most, rounded-below, rounded-at, no-fraction, rounded-within, few-left}
+use Rattle.pool.proofs.Standing.{first, larger-first, earlier-first, never, onwards, either}
 
--- ---- one share, and the shares of a run of wins of one pool
+-- ---- the share at each place
 
-module _ (maximum pool : ℕ) where
-  share-full : (win : ℕ) → pool ≤ maximum → shareOf maximum pool win ≡ win
-  unfolding shareOf
-  share-full win h = simp (le-leb _ _ h)
+module _ (maximum : ℕ) (wins : List ℕ) where
+  shares-long : length (sharesOf maximum wins) ≡ length wins
+  unfolding sharesOf
+  shares-long = each-length (shareOf maximum wins) (length wins)
 
-  share-cut : (win : ℕ) → maximum < pool → shareOf maximum pool win ≡ maximum * win / pool
-  unfolding shareOf
-  share-cut win h = simp (lt-leb _ _ h)
+  all-full : total wins ≤ maximum → sharesOf maximum wins ≡ wins
+  unfolding sharesOf shareOf
+  all-full h =
+      let full = le-leb (total wins) maximum h in
+      gather-same (length wins) (λ k. shareOf maximum wins k ∷ []) (λ k. getD wins k 0 ∷ []) (λ k l. simp full) ∙ sym (each-of wins (length wins) refl)
 
-  at-most : (win : ℕ) → shareOf maximum pool win ≤ win
-  at-most win = go (leb pool maximum) refl
+  -- ---- where the pool exceeds the maximum
+  module _ (over : maximum < total wins) where
+    -- whether the win at any place gets a dollar: past the end there is none
+    abbrev gets : ℕ → Bool
+    gets k = ltb k (length wins) && getsOne maximum wins k
+
+    share-in : (k : ℕ) → k < length wins → getD (sharesOf maximum wins) k 0 ≡ roundedAt maximum wins k + one (getsOne maximum wins k)
+    unfolding sharesOf shareOf
+    share-in k h = each-at (shareOf maximum wins) (length wins) k h ∙ simp (lt-leb _ _ over)
+
+    -- past the end
+    no-win : (k : ℕ) → length wins ≤ k → getD wins k 0 ≡ 0
+    no-win k h = List·getD-eq-default wins 0 h
+
+    share-at : (k : ℕ) → getD (sharesOf maximum wins) k 0 ≡ roundedAt maximum wins k + one (gets k)
+    share-at k = go (ltb k (length wins)) refl
+      where
+        go : (here : Bool) → ltb k (length wins) ≡ here → getD (sharesOf maximum wins) k 0 ≡ roundedAt maximum wins k + one (here && getsOne maximum wins k)
+        go true e = share-in k (ltb-true _ _ e)
+        go false e =
+            let past = ltb-false k (length wins) e in
+            let none : roundedAt maximum wins k ≡ 0 = omega (arith, rounded-most maximum (total wins) (getD wins k 0) over, no-win k past) in
+            List·getD-eq-default (sharesOf maximum wins) 0 (omega (arith, shares-long)) ∙ omega (arith, none)
+
+    -- ---- who gets a dollar
+
+    order : (j k : ℕ) → j < length wins → standsBefore maximum wins j k ≡ true → ahead maximum wins j < ahead maximum wins k
+    unfolding ahead
+    order j k h b =
+        let f = fractionAt maximum wins in
+        rank-less (length wins) (first f) (never f) (onwards f) (either f) j k h b
+
+    -- as many as there are dollars left
+    many : tally (length wins) (getsOne maximum wins) ≡ dollarsLeft maximum wins
+    unfolding getsOne ahead
+    many =
+        let f = fractionAt maximum wins in
+        let d = dollarsLeft maximum wins in
+        let most = few-left maximum wins over in
+        first-many (length wins) (first f) (never f) (onwards f) (either f) d (omega (arith, most, tally-le (length wins) (λ k. ltb 0 (f k))))
+
+    getting : (k : ℕ) → gets k ≡ true → (k < length wins) × (ahead maximum wins k < dollarsLeft maximum wins)
+    unfolding getsOne
+    getting k e =
+        let two = and-true (ltb k (length wins)) (getsOne maximum wins k) e in
+        (ltb-true _ _ (two .0), ltb-true _ _ (two .1))
+
+    to-get : (k : ℕ) → k < length wins → ahead maximum wins k < dollarsLeft maximum wins → gets k ≡ true
+    unfolding getsOne
+    to-get k h l = both _ _ (lt-ltb _ _ h) (lt-ltb _ _ l)
+
+    -- only a win with a fraction
+    of-some : (k : ℕ) → gets k ≡ true → 0 < fractionAt maximum wins k
+    unfolding ahead
+    of-some k e = go (ltb 0 (fractionAt maximum wins k)) refl
+      where
+        go : (some : Bool) → ltb 0 (fractionAt maximum wins k) ≡ some → 0 < fractionAt maximum wins k
+        go true p = ltb-true _ _ p
+        go false p =
+            let f = fractionAt maximum wins in
+            let none : f k ≤ 0 = ltb-false 0 (f k) p in
+            let before = tally-weaker (length wins) (λ j. ltb 0 (f j)) (λ j. standsBefore maximum wins j k)
+            (λ j h q. let some = ltb-true 0 (f j) q in larger-first f j k (omega arith)) in
+            absurd (omega (arith, before, getting k e .1, few-left maximum wins over))
+
+    -- a share above its rounded part has a dollar, one that isn't has none
+    dollar : (k : ℕ) → roundedAt maximum wins k < getD (sharesOf maximum wins) k 0 → gets k ≡ true
+    dollar k h = go (gets k) refl
+      where
+        go : (b : Bool) → gets k ≡ b → gets k ≡ true
+        go true e = e
+        go false e = absurd (omega (arith, share-at k, ap one e))
+
+    no-dollar : (k : ℕ) → getD (sharesOf maximum wins) k 0 ≤ roundedAt maximum wins k → gets k ≡ false
+    no-dollar k h = go (gets k) refl
+      where
+        go : (b : Bool) → gets k ≡ b → gets k ≡ false
+        go true e = absurd (omega (arith, share-at k, ap one e))
+        go false e = e
+
+    -- ---- the laws
+
+    no-more : (k : ℕ) → getD (sharesOf maximum wins) k 0 ≤ getD wins k 0
+    no-more k = go (gets k) refl
+      where
+        go : (b : Bool) → gets k ≡ b → getD (sharesOf maximum wins) k 0 ≤ getD wins k 0
+        go true e = omega (arith, share-at k, ap one e, rounded-below maximum (total wins) (getD wins k 0) over (of-some k e))
+        go false e = omega (arith, share-at k, ap one e, rounded-most maximum (total wins) (getD wins k 0) over)
+
+    whole : total (sharesOf maximum wins) ≡ maximum
+    whole =
+        let n = length wins in
+        let rounded = map (roundedDown maximum (total wins)) wins in
+        let each-share = total-sum (sharesOf maximum wins) n shares-long
+        ∙ sum-same n (λ k. getD (sharesOf maximum wins) k 0) (λ k. getD rounded k 0 + one (getsOne maximum wins k))
+        (λ k h. rw (rounded-at maximum (total wins) wins k over) (share-in k h))
+        ∙ sum-add n (λ k. getD rounded k 0) (λ k. one (getsOne maximum wins k)) in
+        omega (
+          arith,
+          each-share,
+          total-sum rounded n (length-map wins (roundedDown maximum (total wins))),
+          tally-sum n (getsOne maximum wins),
+          many,
+          rounded-within maximum wins over,
+        )
+
+    by-fraction : (j k : ℕ) → roundedAt maximum wins j < getD (sharesOf maximum wins) j 0 → getD (sharesOf maximum wins) k 0 ≤ roundedAt maximum wins k
+        → fractionAt maximum wins k ≤ fractionAt maximum wins j
+    by-fraction j k p q = go (leb (fractionAt maximum wins k) (fractionAt maximum wins j)) (ltb k (length wins)) refl refl
+      where
+        go : (a b : Bool) → leb (fractionAt maximum wins k) (fractionAt maximum wins j) ≡ a → ltb k (length wins) ≡ b → fractionAt maximum wins k ≤ fractionAt maximum wins j
+        go true b e h = leb-true _ _ e
+        go false true e h =
+            let here = ltb-true _ _ h in
+            let own = getting j (dollar j p) in
+            let before = order k j here (larger-first (fractionAt maximum wins) k j (leb-false _ _ e)) in
+            clash (gets k) (to-get k here (omega arith)) (no-dollar k q)
+        go false false e h = rw (no-win k (ltb-false _ _ h), no-fraction maximum (total wins)) (omega arith)
+
+    by-place : (j k : ℕ) → j < k → fractionAt maximum wins j ≡ fractionAt maximum wins k
+        → roundedAt maximum wins k < getD (sharesOf maximum wins) k 0 → roundedAt maximum wins j < getD (sharesOf maximum wins) j 0
+    by-place j k l e p =
+        let own = getting k (dollar k p) in
+        let here : j < length wins = omega arith in
+        let before = order j k here (earlier-first (fractionAt maximum wins) j k (sym e) l) in
+        omega (arith, share-at j, ap one (to-get j here (omega arith)))
+
+  at-most : (k : ℕ) → getD (sharesOf maximum wins) k 0 ≤ getD wins k 0
+  at-most k = go (leb (total wins) maximum) refl
     where
-      go : (full : Bool) → leb pool maximum ≡ full → shareOf maximum pool win ≤ win
-      go true e = omega (arith, share-full win (leb-true _ _ e))
-      go false e =
-          let h : maximum < pool = leb-false _ _ e in
-          rw (share-cut win h) (div-le-of-le-mul pool (mul-le-mul-right win (omega arith)))
+      go : (full : Bool) → leb (total wins) maximum ≡ full → getD (sharesOf maximum wins) k 0 ≤ getD wins k 0
+      go true e = rw (all-full (leb-true _ _ e)) (omega arith)
+      go false e = no-more (leb-false _ _ e) k
 
-  -- at any place: past the end there is no win and no share
-  pub share-at : (wins : List ℕ) (k : ℕ) → getD (map (shareOf maximum pool) wins) k 0 ≡ shareOf maximum pool (getD wins k 0)
-  share-at wins k =
-      let none : shareOf maximum pool 0 ≡ 0 = omega (arith, at-most 0) in
-      rw none at (List·getD-map (shareOf maximum pool) wins k 0)
-
-  all-full : (wins : List ℕ) → pool ≤ maximum → map (shareOf maximum pool) wins ≡ wins
-  all-full [] h = refl
-  all-full (win ∷ wins) h = simp (share-full win h, all-full wins h)
-
-  -- the shares times the pool
-  parts : (wins : List ℕ) → maximum < pool → total (map (shareOf maximum pool) wins) * pool ≤ maximum * total wins
-  unfolding total
-  parts [] h = omega arith
-  parts (win ∷ wins) h =
-      rw (share-cut win h, add-mul, mul-add) (omega (arith, div-mul-le-self (maximum * win) pool, parts wins h))
-
-pub shares-law : (maximum : ℕ) (wins : List ℕ) → Shares maximum wins (sharesOf maximum wins)
-unfolding sharesOf
-shares-law maximum wins =
-    record {
-      long = length-map wins _;
-      atMost = λ k. rw share-at (at-most maximum (total wins) (getD wins k 0));
-      inFull = all-full maximum (total wins) wins;
-      within = λ h. le-of-mul-le-mul-right (parts maximum (total wins) wins h) (omega arith);
-      least = λ h k. rw (share-at, share-cut) (omega arith);
-    }
+  pub shares-law : Shares maximum wins (sharesOf maximum wins)
+  shares-law =
+      record {
+        long = shares-long;
+        atMost = at-most;
+        inFull = all-full;
+        exactly = whole;
+        least = λ over k. omega (arith, share-at over k);
+        most = λ over k. omega (arith, share-at over k, one-le (gets over k));
+        largest = by-fraction;
+        earlier = by-place;
+      }
 
 -- ---- which pools are shared
 

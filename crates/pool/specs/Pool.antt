@@ -1,23 +1,58 @@
 -- The round maximum: how a pool of wins is shared. Wins, shares and the maximum are whole dollars.
 -- Assumes nothing.
-use Prim.Native.Nat.{ℕ, _*_, _/_}
-use mathlib.Core.Bool.{Bool, not, _||_}
+use Prim.Native.Nat.{ℕ, _+_, _*_, _-_, _/_, _%_}
+use mathlib.Core.Bool.{Bool, not, _&&_, _||_}
 use mathlib.Core.List.{List, map}
 use lib.Dec.{eqb, leb, ltb}
-use lib.ListN.{length, replicate}
-use Rattle.counting.specs.Choose.{if_then_else_}
-use Rattle.counting.specs.Count.{everyOf, total}
+use lib.ListN.{length, getD, replicate}
+use Rattle.counting.specs.Choose.{if_then_else_, one}
+use Rattle.counting.specs.Count.{tally, everyOf, total, each}
 use Rattle.pool.specs.declared.Shared.{Shared}
 use Rattle.pool.specs.declared.Shared.the-variants.{Full, Cut, Refused}
 use Rattle.pool.specs.declared.Pool.{Pool}
 
--- If the pool's total is at most the maximum, all are paid in full. Otherwise each gets maximum × its win ÷ total, rounded down to
--- a dollar; the rest stays with the house.
-unfoldable pub shareOf : ℕ → ℕ → ℕ → ℕ
-shareOf maximum pool win = if leb pool maximum then win else maximum * win / pool
+-- ---- A pool above the maximum: each gets maximum × its win ÷ total, which is whole dollars and a fraction of one.
+
+-- the share rounded down to a dollar
+abbrev pub roundedDown : ℕ → ℕ → ℕ → ℕ
+roundedDown maximum pool win = maximum * win / pool
+
+-- The fraction that this leaves: the remainder, so many parts of the total. Two fractions of one pool are compared by it exactly.
+abbrev pub fraction : ℕ → ℕ → ℕ → ℕ
+fraction maximum pool win = maximum * win % pool
+
+-- how many dollars of the maximum are left after rounding down
+unfoldable pub dollarsLeft : ℕ → List ℕ → ℕ
+dollarsLeft maximum wins = maximum - total (map (roundedDown maximum (total wins)) wins)
+
+-- the fraction of the win at place k
+abbrev pub fractionAt : ℕ → List ℕ → ℕ → ℕ
+fractionAt maximum wins k = fraction maximum (total wins) (getD wins k 0)
+
+-- Who stands before whom: the win at place j before the one at place k where its fraction is larger, and of equal fractions where
+-- its place is earlier.
+abbrev pub standsBefore : ℕ → List ℕ → ℕ → ℕ → Bool
+standsBefore maximum wins j k =
+    ltb (fractionAt maximum wins k) (fractionAt maximum wins j)
+    || (eqb (fractionAt maximum wins k) (fractionAt maximum wins j) && ltb j k)
+
+-- how many stand before the win at place k
+unfoldable pub ahead : ℕ → List ℕ → ℕ → ℕ
+ahead maximum wins k = tally (length wins) (λ j. standsBefore maximum wins j k)
+
+-- The dollars left go one each to the largest fractions, ties to the earlier place: to a win with fewer before it than there are dollars.
+unfoldable pub getsOne : ℕ → List ℕ → ℕ → Bool
+getsOne maximum wins k = ltb (ahead maximum wins k) (dollarsLeft maximum wins)
+
+-- ---- If the pool's total is at most the maximum, all are paid in full. Otherwise each gets its share rounded down, and the dollar that falls to it.
+
+unfoldable pub shareOf : ℕ → List ℕ → ℕ → ℕ
+shareOf maximum wins k =
+    if leb (total wins) maximum then getD wins k 0
+    else roundedDown maximum (total wins) (getD wins k 0) + one (getsOne maximum wins k)
 
 unfoldable pub sharesOf : ℕ → List ℕ → List ℕ
-sharesOf maximum wins = map (shareOf maximum (total wins)) wins
+sharesOf maximum wins = each (length wins) (shareOf maximum wins)
 
 -- no win is above 500,000
 unfoldable pub winsFit : List ℕ → Bool

@@ -6,10 +6,12 @@
 ghost use mathlib.Core.Path.{_≡_};
 ghost use mathlib.Core.Bool.{true};
 ghost use mathlib.Core.List.{map};
-ghost use Prim.Native.Nat.{_*_, _≤_};
+ghost use Prim.Native.Nat.{_≤_, _<_};
 ghost use lib.ListN.{length};
+ghost use Rattle.counting.specs.Choose.{one};
 ghost use Rattle.counting.specs.Count.{total};
-ghost use Rattle.pool.specs.Pool.{shareOf, winsFit, shareRefusal, shareAnswer, shareList, numberOf, poolOf};
+ghost use Rattle.pool.specs.Pool.{roundedDown, sharesOf, winsFit, shareRefusal, shareAnswer, shareList, numberOf, poolOf};
+ghost use Rattle.pool.specs.Standings.{standing, standings, above, given};
 
 // The answer of share.
 pub enum Shared {
@@ -77,26 +79,88 @@ fn total_of(wins: &[u64]) -> u64
     sum
 }
 
-// One win's share.
-fn share_of(win: u64, maximum: u64, pool: u64) -> u64
-    requires { ⌜ (win ≤ 500000) × (maximum ≤ 75000) ⌝ }
-    ensures { λ r. ⌜ r ≡ shareOf maximum pool win ⌝ }
+// A test as a number.
+fn one_where(test: bool) -> u64
+    ensures { λ r. ⌜ r ≡ one test ⌝ }
 {
-    if pool <= maximum {
-        return win;
-    }
-    maximum * win / pool
+    test as u64
 }
 
-// Every win's share, into a list as long.
-fn fill(wins: &[u64], maximum: u64, pool: u64, shares: &mut [u64])
-    requires { ⌜ (length (now wins) ≡ length (now shares)) × (winsFit (now wins) ≡ true) ⌝ }
-    requires { ⌜ maximum ≤ 75000 ⌝ }
-    ensures { λ r. ⌜ now (shares .exit) ≡ map (shareOf maximum pool) (now (wins .entry)) ⌝ }
+// Where a win stands, as one number: the larger, the earlier.
+fn standing_of(part: u64, place: usize) -> u64
+    requires { ⌜ (part < 3500000) × (place < 7) ⌝ }
+    ensures { λ r. ⌜ r ≡ standing part place ⌝ }
 {
+    part * 8 + (7 - place as u64)
+}
+
+// Each win's share rounded down, into a list as long; and where each win stands.
+fn round_down(wins: &[u64], maximum: u64, pool: u64, shares: &mut [u64]) -> [u64; 7]
+    requires { ⌜ (length (now wins) ≡ length (now shares)) × (length (now wins) ≤ 7) × (winsFit (now wins) ≡ true) ⌝ }
+    requires { ⌜ (maximum ≤ 75000) × (maximum < pool) × (pool ≤ 3500000) ⌝ }
+    ensures standings { λ r. ⌜ r ≡ standings maximum pool (now (wins .entry)) (length (now (wins .entry))) ⌝ }
+    ensures list { λ r. ⌜ now (shares .exit) ≡ map (roundedDown maximum pool) (now (wins .entry)) ⌝ }
+{
+    let mut stand = [0u64; 7];
     let mut i = 0;
     while i < wins.len() {
-        shares[i] = share_of(wins[i], maximum, pool);
+        let product = maximum * wins[i];
+        shares[i] = product / pool;
+        stand[i] = standing_of(product % pool, i);
+        i += 1;
+    }
+    stand
+}
+
+// How many of the numbers are larger than this one. With no branch: which of two is larger can't be foretold.
+fn above_of(numbers: &[u64], own: u64) -> u64
+    ensures { λ r. ⌜ r ≡ above (now (numbers .entry)) own ⌝ }
+{
+    let mut count: u64 = 0;
+    let mut j = 0;
+    while j < numbers.len() {
+        count += one_where(own < numbers[j]);
+        j += 1;
+    }
+    count
+}
+
+// The dollars left, one each to those who stand first.
+fn give(left: u64, stand: &[u64], shares: &mut [u64])
+    requires { ⌜ (length (now shares) ≤ length (now stand)) × (total (now shares) ≤ 3500000) ⌝ }
+    ensures { λ r. ⌜ now (shares .exit) ≡ given left (now (stand .entry)) (now (shares .entry)) ⌝ }
+{
+    let mut k = 0;
+    while k < shares.len() {
+        shares[k] += one_where(above_of(stand, stand[k]) < left);
+        k += 1;
+    }
+}
+
+// The shares of a pool that exceeds the maximum.
+fn cut(wins: &[u64], maximum: u64, pool: u64, shares: &mut [u64])
+    requires { ⌜ (length (now wins) ≡ length (now shares)) × (length (now wins) ≤ 7) × (winsFit (now wins) ≡ true) ⌝ }
+    requires { ⌜ (maximum ≤ 75000) × (maximum < pool) × (pool ≡ total (now wins)) ⌝ }
+    ensures { λ r. ⌜ now (shares .exit) ≡ sharesOf maximum (now (wins .entry)) ⌝ }
+{
+    let stand = round_down(wins, maximum, pool, shares);
+    let left = maximum - total_of(shares);
+    give(left, &stand, shares);
+}
+
+// Every win's share, into a list as long: all in full, or cut.
+fn fill(wins: &[u64], maximum: u64, pool: u64, shares: &mut [u64])
+    requires { ⌜ (length (now wins) ≡ length (now shares)) × (length (now wins) ≤ 7) × (winsFit (now wins) ≡ true) ⌝ }
+    requires { ⌜ (maximum ≤ 75000) × (pool ≡ total (now wins)) ⌝ }
+    ensures { λ r. ⌜ now (shares .exit) ≡ sharesOf maximum (now (wins .entry)) ⌝ }
+{
+    if maximum < pool {
+        cut(wins, maximum, pool, shares);
+        return;
+    }
+    let mut i = 0;
+    while i < wins.len() {
+        shares[i] = wins[i];
         i += 1;
     }
 }

@@ -206,7 +206,7 @@ fn share_number(answer: Shared) -> u8
     }
 }
 
-// Shares a maximum among up to seven wins, into a list as long. Answers 0, or 19 or 20.
+// Shares a maximum among up to seven wins, into a list as long: in full, or to exactly the maximum. Answers 0, or 19 or 20.
 #[no_mangle]
 pub extern "C" fn ripplehatch_share(wins: &[u64], maximum: u64, shares: &mut [u64]) -> u8
     ensures number { λ r. ⌜ r ≡ numberOf (shareAnswer (now (wins .entry)) maximum (length (now (shares .entry)))) ⌝ }

@@ -10,8 +10,8 @@
 //     ./run settle samples/whole-round.bin
 // prints
 //     1 2183300 20500 10500 0 0
-//     2 516600 0 0 0 0
-//     pool 600000 24999
+//     2 516700 0 0 0 0
+//     pool 600000 25000
 //
 // The first 34 records are held and the bytes beyond are counted, which is enough for the answer of the whole file
 // (`prefix-is-file`, crates/demands/proofs/Demands.antt). What is read and printed is tested, not proved.

@@ -22,7 +22,7 @@ use text::put_named;
 const NAME: [u8; 6] = *b"shares";
 
 // The maximum, how long the lent list is, how many of the eight wins are shared, the wins.
-const POOLS: [[u64; 11]; 17] = [
+const POOLS: [[u64; 11]; 27] = [
     [25000, 2, 3, 1, 1, 1, 0, 0, 0, 0, 0], // lists of 3 and 2
     [25000, 8, 8, 1, 1, 1, 1, 1, 1, 1, 1], // 8 wins
     [25000, 8, 8, 1, 1, 1, 1, 1, 1, 1, 500001], // 8 wins, and one too large
@@ -37,7 +37,17 @@ const POOLS: [[u64; 11]; 17] = [
     [25000, 3, 3, 20000, 10000, 500, 0, 0, 0, 0, 0], // the house's own example
     [25000, 2, 2, 20000, 5000, 0, 0, 0, 0, 0, 0], // a pool exactly at the maximum
     [25000, 2, 2, 20000, 5001, 0, 0, 0, 0, 0, 0], // one dollar above it
+    [25000, 1, 1, 25001, 0, 0, 0, 0, 0, 0, 0], // one win, one dollar above it
     [0, 1, 1, 10, 0, 0, 0, 0, 0, 0, 0], // nothing to share
+    [0, 3, 3, 10, 20, 30, 0, 0, 0, 0, 0], // the same of three wins
+    [25, 2, 2, 20, 20, 0, 0, 0, 0, 0, 0], // equal wins, a dollar left
+    [20, 7, 7, 5, 5, 5, 5, 5, 5, 5, 0], // seven equal wins, six dollars left
+    [4, 3, 3, 1, 3, 4, 0, 0, 0, 0, 0], // wins of 1 and 3 with equal fractions
+    [4, 3, 3, 3, 1, 4, 0, 0, 0, 0, 0], // the other way round
+    [1, 2, 2, 499999, 500000, 0, 0, 0, 0, 0, 0], // fractions one part in 999,999 apart
+    [1, 2, 2, 500000, 499999, 0, 0, 0, 0, 0, 0], // the other way round
+    [25000, 3, 3, 500, 10000, 20000, 0, 0, 0, 0, 0], // the house's example, the other way round
+    [20, 3, 3, 0, 10, 11, 0, 0, 0, 0, 0], // a win of 0
     [
         75000,
         7,
@@ -90,7 +100,7 @@ fn ask_row(row: [u64; 11]) -> bool {
 }
 
 fn ask_all() -> Outcome {
-    for i in 0..17 {
+    for i in 0..27 {
         if !ask_row(POOLS[i]) {
             return Outcome::Fault;
         }

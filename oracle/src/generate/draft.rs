@@ -23,18 +23,24 @@ pub const FOLDS: [&str; 10] = [
 ];
 const SIDES_PLACED: usize = 6;
 
-pub const POOLS: [&str; 6] = [
+pub const POOLS: [&str; 9] = [
     "no pooled hand stacked",
     "wagers of a pooled hand by chance",
     "pool at the maximum",
     "pool just under the maximum",
     "pool just above the maximum",
     "a pooled hand folds",
+    "two shares, no dollar left",
+    "two shares, fractions nearly equal",
+    "two shares, fractions equal",
 ];
 const BY_CHANCE: usize = 1;
 const AT: usize = 2;
 const UNDER: usize = 3;
 const POOLED_FOLDS: usize = 5;
+const NO_DOLLAR_LEFT: usize = 6;
+const NEARLY_EQUAL: usize = 7;
+const EQUAL: usize = 8;
 
 #[derive(Clone)]
 pub struct DraftSeat {
@@ -125,7 +131,7 @@ impl Draft {
             draft.seat(rng, number);
         }
         draft.one_folds_at_least(rng);
-        draft.aim_pool(rng);
+        draft.aim_pool(rng, stacked.sharing);
         draft.choose(rng);
         draft
     }
@@ -191,13 +197,18 @@ impl Draft {
     }
 
     /// Sets the wagers of pooled hands so that the pool comes where it is
-    /// wanted.
-    fn aim_pool(&mut self, rng: &mut Prng) {
+    /// wanted; for a deck of two that share, so that it is above the maximum and
+    /// the fractions are as wanted.
+    fn aim_pool(&mut self, rng: &mut Prng, sharing: bool) {
         let pooled = self.pooled();
         let Some(&(last, odds)) = pooled.last() else {
             return;
         };
-        self.pool = rng.between(BY_CHANCE, POOLED_FOLDS);
+        self.pool = if sharing {
+            rng.between(NO_DOLLAR_LEFT, EQUAL)
+        } else {
+            rng.between(BY_CHANCE, POOLED_FOLDS)
+        };
         if self.pool == POOLED_FOLDS {
             let (order, _) = pooled[rng.below(pooled.len())];
             self.seats[order].folds = Some(rng.below(3));
@@ -228,14 +239,18 @@ impl Draft {
         let mut wagers = Vec::new();
         for ante in self.smallest..=self.largest {
             for raises in 3..=9 {
-                let total = before + odds * ante * (1 + raises);
-                if self.is_aim(total, maximum) {
+                let win = odds * ante * (1 + raises);
+                let total = before + win;
+                if self.is_aim(win, total, maximum) {
                     wagers.push((total.abs_diff(maximum), ante, raises));
                 }
             }
         }
-        let nearest = wagers.iter().map(|wager| wager.0).min();
-        wagers.retain(|wager| Some(wager.0) == nearest);
+        // An aim at the total wants it as near to the maximum as can be.
+        if self.pool < NO_DOLLAR_LEFT {
+            let nearest = wagers.iter().map(|wager| wager.0).min();
+            wagers.retain(|wager| Some(wager.0) == nearest);
+        }
         let Some((_, ante, raises)) = rng.pick(&wagers) else {
             return false;
         };
@@ -244,10 +259,17 @@ impl Draft {
         true
     }
 
-    fn is_aim(&self, total: usize, maximum: usize) -> bool {
+    /// Whether a pool with this last win is where it is wanted. Where two share
+    /// and a dollar is left, their remainders make up the total.
+    fn is_aim(&self, win: usize, total: usize, maximum: usize) -> bool {
+        let remainder = maximum * win % total;
+        let apart = total.abs_diff(2 * remainder);
         match self.pool {
             AT => total == maximum,
             UNDER => total < maximum,
+            NO_DOLLAR_LEFT => total > maximum && remainder == 0,
+            NEARLY_EQUAL => total > maximum && apart > 0 && apart < total / 100,
+            EQUAL => total > maximum && apart == 0,
             _ => total > maximum,
         }
     }

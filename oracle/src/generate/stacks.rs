@@ -30,6 +30,8 @@ pub enum Holder {
     Six,
     /// The board, then the pockets of two seats.
     TwoSeats,
+    /// The same, for two seats that share the maximum.
+    Sharing,
     /// Card 0 lies in the last deck part.
     CardZeroLate,
 }
@@ -49,6 +51,8 @@ pub struct Stacked {
     pub board: Vec<u8>,
     pub all_six: Option<u8>,
     pub pockets: Vec<[u8; 2]>,
+    /// Whether two pooled hands share the maximum.
+    pub sharing: bool,
     pub card_zero_late: bool,
 }
 
@@ -91,7 +95,9 @@ const fn stack(
 
 #[rustfmt::skip]
 pub const STACKS: &[Stack] = &[
-    stack("plain shuffle", 12, Holder::Nobody, Mixed, |_| Vec::new()),
+    stack("plain shuffle", 4, Holder::Nobody, Mixed, |_| Vec::new()),
+    stack("royal and straight flush share", 4, Holder::Sharing, One, |_| two_runs(TEN)),
+    stack("two straight flushes share", 4, Holder::Sharing, One, |rng| two_runs(rng.between(1, 7) as u8)),
     stack("card 0 in the last part", 2, Holder::CardZeroLate, Mixed, |_| Vec::new()),
     stack("royal flush", 5, Holder::Five, One, |_| (TEN..=ACE).collect()),
     stack("straight flush", 4, Holder::Five, One, |rng| run(rng.below(8) as u8)),
@@ -214,10 +220,11 @@ impl Stack {
         match self.holder {
             Holder::Nobody => (),
             Holder::CardZeroLate => stacked.card_zero_late = true,
-            Holder::TwoSeats => {
+            Holder::TwoSeats | Holder::Sharing => {
                 stacked.board = cards[..3].to_vec();
                 stacked.pockets = vec![[cards[3], cards[4]], [cards[5], cards[6]]];
                 rng.shuffle(&mut stacked.pockets);
+                stacked.sharing = matches!(self.holder, Holder::Sharing);
             }
             Holder::Five => {
                 rng.shuffle(&mut cards);

@@ -1,45 +1,42 @@
--- The shares stored, then the shares of what is left, are the shares of all.
-use Prim.Native.Nat.{_≤_, _<_, _-_}
-use mathlib.Core.Path.{_≡_, sym, _∙_}
-use mathlib.Core.List.{map}
+use Prim.Native.Nat.{_-_, _≤_}
+use mathlib.Core.Path.{refl, sym, _∙_}
 use native.Mathlib.Omega.{arith}
-use lib.ListN.{length, length-set, length-map}
+use lib.ListN.{length}
 use borrow.Author.Needs.{needs}
-use borrow.Author.Tests.{leb-true}
+use Rattle.counting.specs.Count.{total}
 use Rattle.counting.proofs.Fills.{Filled, fill-none, fill-more, filled}
-use Rattle.counting.proofs.Lists.{everyOf-at}
-use Rattle.pool.specs.Pool.{winsFit, shareOf}
-use Rattle.pool.proofs.Shares.{share-at}
+use Rattle.pool.proofs.Shares.{shares-law}
 use Rattle.pool.proofs.fill.Statement.{statement}
 use Rattle.pool.proofs.fill.Tie as tie
 
 abbrev Inv-loop : tie.InvT-loop
-Inv-loop wins maximum pool shares₀ i₀ shares i =
-    (i ≤ length wins) × (length shares ≡ length wins) × Filled (map (shareOf maximum pool) wins) shares i
+Inv-loop wins maximum pool shares₀ i₀ shares i = (i ≤ length wins) × Filled wins shares i
 
 abbrev μ-loop : tie.MeasureT-loop
 μ-loop wins maximum pool shares₀ i₀ shares i = length wins - i
 
+cut-requires : tie.Need-cut-requires Inv-loop μ-loop
+cut-requires c κs = let s = c .before .before .before .before in (s .pre .0, (s .pre .1 .0, c .before .if1 .taken, s .pre .1 .1))
+
+same-length : tie.Need-same-length Inv-loop μ-loop
+same-length c = search needs
+
+returns : tie.Need-returns Inv-loop μ-loop
+returns c = c .before .before .cut .ensures
+
 loop-holds : tie.Need-loop-holds Inv-loop μ-loop
 loop-holds c =
-    let a = c .before .before .args in
-    let long : length (a .shares .now) ≡ length (a .wins .now) = search needs in
-    (search needs, long, fill-none _ (a .shares .now) (long ∙ sym (length-map (a .wins .now) (shareOf (a .maximum) (a .pool)))))
-
-mul-share-of : tie.Need-mul-share-of Inv-loop μ-loop
-mul-share-of c = search needs
-
-shared-slice-read-share-of : tie.Need-shared-slice-read-share-of Inv-loop μ-loop
-shared-slice-read-share-of c = search needs
-
-share-of-requires : tie.Need-share-of-requires Inv-loop μ-loop
-unfolding winsFit
-share-of-requires c κs =
-    let s = c .before .before .before .before .before in
-    (leb-true _ _ (everyOf-at _ _ (s .pre .0 .1) _ (c .before .loop-test .taken)), s .pre .1)
+    let a = c .before .before .before .args in
+    (search needs, fill-none (a .wins .now) (a .shares .now) (search needs))
 
 mul-shares : tie.Need-mul-shares Inv-loop μ-loop
 mul-shares c = search needs
+
+shared-slice-read-shares : tie.Need-shared-slice-read-shares Inv-loop μ-loop
+shared-slice-read-shares c = search needs
+
+mul-shares-2 : tie.Need-mul-shares-2 Inv-loop μ-loop
+mul-shares-2 c = search needs
 
 slice-write-shares : tie.Need-slice-write-shares Inv-loop μ-loop
 slice-write-shares c = search needs
@@ -52,24 +49,17 @@ loop-less c = search needs
 
 loop-again : tie.Need-loop-again Inv-loop μ-loop
 loop-again c =
-    let l = c .before .before .before in
-    let w = l .before .before .before .args .wins .now in
-    let h : l .loop .i < length w = c .before .before .loop-test .taken in
-    let share = c .share-of .ensures ∙ sym (share-at _ _ w (l .loop .i)) in (
-      omega arith,
-      simp length-set (l .loop .inv .1),
-      fill-more _ _ _ _ (l .loop .inv .2) (rw (length-map w _) h) share,
-    )
+    let l = c .before .before .loop in
+    (omega arith, fill-more _ _ _ _ (l .inv .1) (c .before .loop-test .taken) refl)
 
-same-length : tie.Need-same-length Inv-loop μ-loop
-same-length c = search needs
+same-length-2 : tie.Need-same-length-2 Inv-loop μ-loop
+same-length-2 c = search needs
 
-returns : tie.Need-returns Inv-loop μ-loop
-returns c =
-    let a = c .before .before .before .before .args in
-    let f = shareOf (a .maximum) (a .pool) in
-    let left : length (map f (a .wins .now)) ≤ c .before .loop .i = rw (length-map (a .wins .now) f) (c .loop-test .left) in
-    filled _ _ _ (c .before .loop .inv .2) left
+returns-2 : tie.Need-returns-2 Inv-loop μ-loop
+returns-2 c =
+    let s = c .before .before .before .before .before in
+    let full : total (s .args .wins .now) ≤ s .args .maximum = omega (arith, c .before .before .if1 .left, s .pre .1 .1) in
+    filled _ _ _ (c .before .loop .inv .1) (c .loop-test .left) ∙ sym (shares-law (s .args .maximum) (s .args .wins .now) .inFull full)
 
 pub fill-spec : {M : Type 1} → statement M
 fill-spec =
@@ -77,14 +67,16 @@ fill-spec =
     (tie.spec
     Inv-loop
     μ-loop
+    cut-requires
+    same-length
+    returns
     loop-holds
-    mul-share-of
-    shared-slice-read-share-of
-    share-of-requires
     mul-shares
+    shared-slice-read-shares
+    mul-shares-2
     slice-write-shares
     add-i
     loop-less
     loop-again
-    same-length
-    returns)
+    same-length-2
+    returns-2)

@@ -35,25 +35,21 @@ slice-aggregate-fill-2 c = search needs
 
 fill-requires : tie.Need-fill-requires
 fill-requires c κs =
-    let k = kept _ _ _ (rw (c .before .before .before .before .before .share-refusal .ensures) at (c .before .before .before .before .if1 .left)) in ((k .0, k .2), k .3)
+    let k = kept _ _ _ (rw (c .before .before .before .before .before .share-refusal .ensures) at (c .before .before .before .before .if1 .left)) in ((k .0, k .1, k .2), (k .3, c .before .before .total-of .ensures))
 
 slice-aggregate-total-of-2 : tie.Need-slice-aggregate-total-of-2
 slice-aggregate-total-of-2 c = search needs
 
 total-of-requires-2 : tie.Need-total-of-requires-2
-unfolding sharesOf
 total-of-requires-2 c κs =
     let a = c .before .before .before .before .before .before .before .before .before .before .args in
     let k = kept _ _ _ (rw (c .before .before .before .before .before .before .before .before .share-refusal .ensures) at (c .before .before .before .before .before .before .before .if1 .left)) in
-    let shares = rw (c .before .before .before .before .before .total-of .ensures) at (c .before .before .fill .ensures) in
-    rw shares (omega (arith, k .3, all-within (a .maximum) (a .t1) (sharesOf (a .maximum) (a .t1)) (shares-law (a .maximum) (a .t1))))
+    rw (c .before .before .fill .ensures) (omega (arith, k .3, all-within (a .maximum) (a .t1) (sharesOf (a .maximum) (a .t1)) (shares-law (a .maximum) (a .t1))))
 
 returns-2 : tie.Need-returns-2
-unfolding sharesOf
 returns-2 c =
     let none = rw (c .before .before .before .before .before .before .before .before .before .share-refusal .ensures) at (c .before .before .before .before .before .before .before .before .if1 .left) in
-    let shares = rw (c .before .before .before .before .before .before .total-of .ensures) at (c .before .before .before .fill .ensures) in
-    simp (c .total-of2 .ensures, shares, c .before .before .before .before .before .before .total-of .ensures, c .before .before .before .before .before .before .before .before .if1 .left) (sym (pool-shared _ _ none))
+    simp (c .total-of2 .ensures, c .before .before .before .fill .ensures, c .before .before .before .before .before .before .total-of .ensures, c .before .before .before .before .before .before .before .before .if1 .left) (sym (pool-shared _ _ none))
 
 pub pool-of-spec : {M : Type 1} → statement M
 pool-of-spec =

@@ -1,7 +1,6 @@
 use mathlib.Core.Path.{sym, _∙_}
 use native.Mathlib.Omega.{arith}
 use borrow.Author.Needs.{needs}
-use Rattle.pool.specs.Pool.{sharesOf}
 use Rattle.pool.proofs.Laws.{fit-total}
 use Rattle.pool.proofs.Shares.{kept, answer-refused, answer-full, answer-cut, accepted, refused, promised}
 use Rattle.pool.proofs.share.Statement.{statement}
@@ -23,29 +22,27 @@ total-of-requires c κs =
 fill-requires : tie.Need-fill-requires
 fill-requires c κs =
     let r = c .before .before .before in
-    let k = kept _ _ _ (rw (r .share-refusal .ensures) at (c .before .before .if1 .left)) in ((k .0, k .2), k .3)
+    let k = kept _ _ _ (rw (r .share-refusal .ensures) at (c .before .before .if1 .left)) in ((k .0, k .1, k .2), (k .3, c .before .total-of .ensures))
 
 same-length : tie.Need-same-length
 same-length c = search needs
 
 returns-2 : tie.Need-returns-2
-unfolding sharesOf
 returns-2 c =
     let f = c .before .before .before in
     let t = f .before .before in
     let none = rw (t .before .before .share-refusal .ensures) at (t .before .if1 .left) in
-    promised _ _ _ _ _ (sym (answer-full _ _ _ none (rw (t .total-of .ensures) at (c .if2 .taken)))) (rw (t .total-of .ensures) at (f .fill .ensures) ∙ sym (accepted _ _ _ none))
+    promised _ _ _ _ _ (sym (answer-full _ _ _ none (rw (t .total-of .ensures) at (c .if2 .taken)))) (f .fill .ensures ∙ sym (accepted _ _ _ none))
 
 same-length-2 : tie.Need-same-length-2
 same-length-2 c = search needs
 
 returns-3 : tie.Need-returns-3
-unfolding sharesOf
 returns-3 c =
     let f = c .before .before .before in
     let t = f .before .before in
     let none = rw (t .before .before .share-refusal .ensures) at (t .before .if1 .left) in
-    promised _ _ _ _ _ (sym (answer-cut _ _ _ none (rw (t .total-of .ensures) at (c .if2 .left)))) (rw (t .total-of .ensures) at (f .fill .ensures) ∙ sym (accepted _ _ _ none))
+    promised _ _ _ _ _ (sym (answer-cut _ _ _ none (rw (t .total-of .ensures) at (c .if2 .left)))) (f .fill .ensures ∙ sym (accepted _ _ _ none))
 
 pub share-spec : {M : Type 1} → statement M
 share-spec =

@@ -4,10 +4,10 @@ use Rattle.shares.proofs.ask_all.Statement.{statement}
 use Rattle.shares.proofs.ask_all.Tie as tie
 
 abbrev Inv-loop : tie.InvT-loop
-Inv-loop i₀ i = i ≤ 17
+Inv-loop i₀ i = i ≤ 27
 
 abbrev μ-loop : tie.MeasureT-loop
-μ-loop i₀ i = 17 - i
+μ-loop i₀ i = 27 - i
 
 loop-holds : tie.Need-loop-holds Inv-loop μ-loop
 loop-holds c = search needs
