@@ -81,7 +81,7 @@ fn total_of(wins: &[u64]) -> u64
 
 // A test as a number.
 fn one_where(test: bool) -> u64
-    ensures { λ r. ⌜ r ≡ one test ⌝ }
+    ensures { λ r. ⌜ (r ≡ one test) × (r ≤ 1) ⌝ }
 {
     test as u64
 }

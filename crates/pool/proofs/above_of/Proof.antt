@@ -4,7 +4,6 @@ use native.Mathlib.Omega.{arith}
 use lib.Dec.{ltb}
 use lib.ListN.{length, getD}
 use borrow.Author.Needs.{needs}
-use Rattle.counting.proofs.Tests.{one-le}
 use Rattle.counting.proofs.Ranges.{Tallied, tally-none, tally-step, tally-done}
 use Rattle.pool.specs.Standings.{above}
 use Rattle.pool.proofs.above_of.Statement.{statement}
@@ -29,10 +28,7 @@ one-where-requires : tie.Need-one-where-requires Inv-loop μ-loop
 one-where-requires c κs = search needs
 
 add-count : tie.Need-add-count Inv-loop μ-loop
-add-count c =
-    let l = c .before .before .before in
-    let a = l .before .before .args in
-    omega (arith, c .one-where .ensures, one-le (ltb (a .own) (getD (a .numbers .now) (l .loop .j) 0)))
+add-count c = omega (arith, c .one-where .ensures .1)
 
 add-j : tie.Need-add-j Inv-loop μ-loop
 add-j c = search needs
@@ -45,7 +41,7 @@ loop-again c =
     let l = c .before .before .before in
     let a = l .before .before .args in
     let f : ℕ → Bool = λ i. ltb (a .own) (getD (a .numbers .now) i 0) in
-    omega (arith, c .one-where .ensures, one-le (f (l .loop .j)), tally-step f (l .loop .j))
+    omega (arith, c .one-where .ensures, tally-step f (l .loop .j))
 
 returns : tie.Need-returns Inv-loop μ-loop
 unfolding above

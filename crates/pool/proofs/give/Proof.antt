@@ -9,7 +9,6 @@ use lib.Seq.{getD-set-other}
 use borrow.Author.Needs.{needs}
 use Rattle.counting.specs.Choose.{one}
 use Rattle.counting.specs.Count.{each}
-use Rattle.counting.proofs.Tests.{one-le}
 use Rattle.counting.proofs.Fills.{Filled, each-none, each-more, each-all}
 use Rattle.counting.proofs.Tallies.{total-at}
 use Rattle.pool.specs.Standings.{above, given}
@@ -58,8 +57,7 @@ add-shares c =
     let a = l .before .before .before .args in
     let old = l .loop .inv .3 (l .loop .k) (omega arith) in
     let most = total-at (a .shares .now) (l .loop .k) in
-    let dollar = one-le (ltb (c .before .before .above-of .result) (a .left)) in
-    omega (arith, c .before .one-where .ensures, l .before .before .before .pre)
+    omega (arith, c .before .one-where .ensures .1, l .before .before .before .pre)
 
 slice-write-shares : tie.Need-slice-write-shares Inv-loop μ-loop
 slice-write-shares c = search needs
@@ -77,7 +75,7 @@ loop-again c =
     let k = l .loop .k in
     let here : k < length (a .shares .now) = omega (arith, c .before .before .before .before .loop-test .taken, l .loop .inv .1) in
     let old = l .loop .inv .3 k (omega arith) in
-    let dollar = c .before .one-where .ensures ∙ ap (λ (n : ℕ). one (ltb n (a .left))) (c .before .before .above-of .ensures) in (
+    let dollar = c .before .one-where .ensures .0 ∙ ap (λ (n : ℕ). one (ltb n (a .left))) (c .before .before .above-of .ensures) in (
       omega arith,
       simp length-set (l .loop .inv .1),
       each-more _ _ _ _ _ (l .loop .inv .2) here (omega (arith, old, dollar)),
