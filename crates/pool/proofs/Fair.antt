@@ -3,23 +3,23 @@
 use Prim.Native.Nat.{ℕ, _+_, _-_, _≤_, _<_}
 use mathlib.Core.Path.{_≡_, refl, ap, sym, _∙_}
 use mathlib.Core.Bool.{Bool, true, false, _&&_, _||_}
-use mathlib.Core.List.{List, map}
+use mathlib.Core.List.{List}
 use native.Mathlib.Omega.{arith}
 use lib.Dec.{eqb, leb, ltb}
 use lib.ListN.{length, getD}
 use lib.Seq.{ext-getD}
 use borrow.Author.Tests.{leb-true, leb-false, lt-ltb, le-ltb, ltb-true, ltb-false, ne-eqb}
-use Rattle.counting.specs.Choose.{if_then_else_, one}
-use Rattle.counting.specs.Count.{tally, sumBelow, count, someBelow, total}
+use Rattle.counting.specs.Choose.{one}
+use Rattle.counting.specs.Count.{sumBelow, count, someBelow, total}
 use Rattle.counting.specs.Order.{Reordered}
 use Rattle.counting.proofs.Ranges.{some-where, none-at, tally-same}
-use Rattle.counting.proofs.Orders.{reordered-length, reordered-count, reordered-total, reordered-map}
+use Rattle.counting.proofs.Orders.{reordered-count, reordered-total, reordered-map}
 use Rattle.counting.proofs.Gathers.{each-at}
 use Rattle.counting.proofs.Sums.{squeezed}
 use Rattle.counting.proofs.Tallies.{total-sum, tally-count, tally-cut}
 use Rattle.counting.proofs.Ranks.{tally-parts}
 use Rattle.pool.specs.Pool.{roundedDown, fraction, fractionAt, dollarsLeft, standsBefore, ahead, getsOne, shareOf, sharesOf}
-use Rattle.pool.specs.Shares.{roundedAt, tiesBefore, Shares}
+use Rattle.pool.specs.Shares.{tiesBefore, Shares}
 use Rattle.pool.proofs.Shares.{shares-law}
 
 -- ---- no second list

@@ -9,7 +9,7 @@ use lib.Dec.{eqb, leb, ltb}
 use lib.ListN.{length, getD, length-map, List·getD-eq-default}
 use borrow.Author.Tests.{le-leb, lt-leb, leb-true, leb-false, lt-ltb, le-ltb, ltb-true, ltb-false, eq-eqb, ne-eqb, eqb-true, not-false}
 use Rattle.counting.specs.Choose.{if_then_else_, one}
-use Rattle.counting.specs.Count.{tally, total, gather, each}
+use Rattle.counting.specs.Count.{tally, total}
 use Rattle.counting.proofs.Tests.{clash, and-true, both, one-le, or-false, neither}
 use Rattle.counting.proofs.Answers.{by-number}
 use Rattle.counting.proofs.Ranges.{tally-le}
@@ -89,8 +89,8 @@ module _ (maximum : ℕ) (wins : List ℕ) where
     to-get k h l = both _ _ (lt-ltb _ _ h) (lt-ltb _ _ l)
 
     -- only a win with a fraction
-    of-some : (k : ℕ) → gets k ≡ true → 0 < fractionAt maximum wins k
-    unfolding ahead
+    pub of-some : (k : ℕ) → getsOne maximum wins k ≡ true → 0 < fractionAt maximum wins k
+    unfolding getsOne ahead
     of-some k e = go (ltb 0 (fractionAt maximum wins k)) refl
       where
         go : (some : Bool) → ltb 0 (fractionAt maximum wins k) ≡ some → 0 < fractionAt maximum wins k
@@ -100,7 +100,7 @@ module _ (maximum : ℕ) (wins : List ℕ) where
             let none : f k ≤ 0 = ltb-false 0 (f k) p in
             let before = tally-weaker (length wins) (λ j. ltb 0 (f j)) (λ j. standsBefore maximum wins j k)
             (λ j h q. let some = ltb-true 0 (f j) q in larger-first f j k (omega arith)) in
-            absurd (omega (arith, before, getting k e .1, few-left maximum wins over))
+            absurd (omega (arith, before, ltb-true (ahead maximum wins k) (dollarsLeft maximum wins) e, few-left maximum wins over))
 
     -- a share above its rounded part has a dollar, one that isn't has none
     dollar : (k : ℕ) → roundedAt maximum wins k < getD (sharesOf maximum wins) k 0 → gets k ≡ true
@@ -123,7 +123,7 @@ module _ (maximum : ℕ) (wins : List ℕ) where
     no-more k = go (gets k) refl
       where
         go : (b : Bool) → gets k ≡ b → getD (sharesOf maximum wins) k 0 ≤ getD wins k 0
-        go true e = omega (arith, share-at k, ap one e, rounded-below maximum (total wins) (getD wins k 0) over (of-some k e))
+        go true e = omega (arith, share-at k, ap one e, rounded-below maximum (total wins) (getD wins k 0) over (of-some k (and-true (ltb k (length wins)) (getsOne maximum wins k) e .1)))
         go false e = omega (arith, share-at k, ap one e, rounded-most maximum (total wins) (getD wins k 0) over)
 
     whole : total (sharesOf maximum wins) ≡ maximum

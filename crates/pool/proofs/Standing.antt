@@ -1,23 +1,21 @@
 -- Who stands before whom: an order in which no two places are level; and the numbers by which the code compares.
 -- Assumes nothing.
-use Prim.Native.Nat.{ℕ, _+_, _*_, _-_, _≤_, _<_}
-use mathlib.Core.Path.{_≡_, refl, sym, ap, _∙_}
+use Prim.Native.Nat.{ℕ, _+_, _-_, _≤_, _<_}
+use mathlib.Core.Path.{_≡_, refl, sym, _∙_}
 use mathlib.Core.Bool.{Bool, true, false, _&&_, _||_}
-use mathlib.Core.List.{List, map}
+use mathlib.Core.List.{List}
 use native.Mathlib.Omega.{arith}
 use lib.Dec.{eqb, ltb}
-use lib.ListN.{length, getD, set, replicate, length-set, length-map}
+use lib.ListN.{length, getD, set, replicate, length-set}
 use lib.Seq.{ext-getD, getD-set-same, getD-set-other}
-use borrow.Author.Tests.{lt-leb, lt-ltb, le-ltb, ltb-true, ltb-false, eq-eqb, eqb-true, eqb-false}
-use Rattle.counting.specs.Choose.{if_then_else_, one}
-use Rattle.counting.specs.Count.{tally, total, gather, each}
+use borrow.Author.Tests.{lt-ltb, le-ltb, ltb-true, ltb-false, eq-eqb, eqb-true, eqb-false}
+use Rattle.counting.specs.Count.{total, gather}
 use Rattle.counting.proofs.Tests.{clash, same-true}
 use Rattle.counting.proofs.Ranges.{tally-same}
 use Rattle.counting.proofs.Tallies.{tally-cut}
-use Rattle.counting.proofs.Gathers.{gather-same, each-length, each-at}
-use Rattle.pool.specs.Pool.{roundedDown, fraction, fractionAt, standsBefore, ahead, getsOne, dollarsLeft, shareOf, sharesOf}
-use Rattle.pool.specs.Standings.{standing, standingAt, standings, above, given}
-use Rattle.pool.proofs.Rounded.{rounded-at}
+use Rattle.counting.proofs.Gathers.{each-length, each-at}
+use Rattle.pool.specs.Pool.{fraction, fractionAt, standsBefore, ahead}
+use Rattle.pool.specs.Standings.{standing, standingAt, standings, above}
 
 module _ (f : ℕ → ℕ) where
   -- the larger number first, of equal ones the earlier place
@@ -80,7 +78,7 @@ module _ (maximum pool : ℕ) (wins : List ℕ) where
   unfolding standings standingAt gather
   standings-none = refl
 
-  standing-in : (i k : ℕ) → k < i → k < 7 → getD (standings maximum pool wins i) k 0 ≡ standing (fraction maximum pool (getD wins k 0)) k
+  pub standing-in : (i k : ℕ) → k < i → k < 7 → getD (standings maximum pool wins i) k 0 ≡ standing (fraction maximum pool (getD wins k 0)) k
   unfolding standings standingAt
   standing-in i k h s = each-at (standingAt maximum pool wins i) 7 k s ∙ simp (lt-ltb k i h)
 
@@ -120,7 +118,7 @@ module _ (maximum : ℕ) (wins : List ℕ) (few : length wins ≤ 7) where
   abbrev all : List ℕ
   all = standings maximum (total wins) wins (length wins)
 
-  above-ahead : (k : ℕ) → k < length wins → above all (getD all k 0) ≡ ahead maximum wins k
+  pub above-ahead : (k : ℕ) → k < length wins → above all (getD all k 0) ≡ ahead maximum wins k
   unfolding above ahead
   above-ahead k h =
       let seven : (7 - length wins) + length wins ≡ 7 = omega arith in
@@ -131,12 +129,3 @@ module _ (maximum : ℕ) (wins : List ℕ) (few : length wins ≤ 7) where
       (λ j p q. rw (standing-out maximum (total wins) wins (length wins) j p (omega arith)) (le-ltb (getD all k 0) 0 (omega arith)))
       ∙ tally-same (length wins) larger (λ j. standsBefore maximum wins j k) (λ j l.
       rw (own, standing-in maximum (total wins) wins (length wins) j l (omega arith)) (numbered (fractionAt maximum wins) j k (omega arith) (omega arith))))
-
-  pub cut-shares : maximum < total wins → given (dollarsLeft maximum wins) all (map (roundedDown maximum (total wins)) wins) ≡ sharesOf maximum wins
-  unfolding given sharesOf shareOf getsOne
-  cut-shares over =
-      let rounded = map (roundedDown maximum (total wins)) wins in
-      let long : length rounded ≡ length wins = length-map wins (roundedDown maximum (total wins)) in
-      rw long
-      (gather-same (length wins) _ _ (λ k h.
-      rw (rounded-at maximum (total wins) wins k over, above-ahead k h, lt-leb (total wins) maximum over)))

@@ -1,8 +1,9 @@
 -- The numbers by which the code compares wins: where a win stands, the larger the earlier. Nothing that is promised speaks of them.
 -- Assumes nothing.
 use Prim.Native.Nat.{ℕ, _+_, _*_, _-_}
+use mathlib.Core.Bool.{Bool, _&&_}
 use mathlib.Core.List.{List}
-use lib.Dec.{ltb}
+use lib.Dec.{leb, ltb}
 use lib.ListN.{length, getD}
 use Rattle.counting.specs.Choose.{if_then_else_, one}
 use Rattle.counting.specs.Count.{tally, each}
@@ -23,6 +24,11 @@ standings maximum pool wins i = each 7 (standingAt maximum pool wins i)
 unfoldable pub above : List ℕ → ℕ → ℕ
 above numbers own = tally (length numbers) (λ j. ltb own (getD numbers j 0))
 
--- each share, and a dollar where fewer standings are larger than there are dollars
+-- A dollar falls to whoever has a fraction and fewer standings above its own than there are dollars. (Without a fraction it has more above it in
+-- any case, and needn't be compared.)
+unfoldable pub getsDollar : ℕ → List ℕ → ℕ → Bool
+getsDollar left numbers own = leb 8 own && ltb (above numbers own) left
+
+-- each share with its dollar
 unfoldable pub given : ℕ → List ℕ → List ℕ → List ℕ
-given left numbers shares = each (length shares) (λ k. getD shares k 0 + one (ltb (above numbers (getD numbers k 0)) left))
+given left numbers shares = each (length shares) (λ k. getD shares k 0 + one (getsDollar left numbers (getD numbers k 0)))

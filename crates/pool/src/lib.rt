@@ -11,7 +11,7 @@ ghost use lib.ListN.{length};
 ghost use Rattle.counting.specs.Choose.{one};
 ghost use Rattle.counting.specs.Count.{total};
 ghost use Rattle.pool.specs.Pool.{roundedDown, sharesOf, winsFit, shareRefusal, shareAnswer, shareList, numberOf, poolOf};
-ghost use Rattle.pool.specs.Standings.{standing, standings, above, given};
+ghost use Rattle.pool.specs.Standings.{standing, standings, above, getsDollar, given};
 
 // The answer of share.
 pub enum Shared {
@@ -125,6 +125,16 @@ fn above_of(numbers: &[u64], own: u64) -> u64
     count
 }
 
+// The dollar that falls to a win, by where it stands: none where it has no fraction, as below 8.
+fn dollar_to(left: u64, stand: &[u64], own: u64) -> u64
+    ensures { λ r. ⌜ (r ≡ one (getsDollar left (now (stand .entry)) own)) × (r ≤ 1) ⌝ }
+{
+    if own < 8 {
+        return 0;
+    }
+    one_where(above_of(stand, own) < left)
+}
+
 // The dollars left, one each to those who stand first.
 fn give(left: u64, stand: &[u64], shares: &mut [u64])
     requires { ⌜ (length (now shares) ≤ length (now stand)) × (total (now shares) ≤ 3500000) ⌝ }
@@ -132,7 +142,7 @@ fn give(left: u64, stand: &[u64], shares: &mut [u64])
 {
     let mut k = 0;
     while k < shares.len() {
-        shares[k] += one_where(above_of(stand, stand[k]) < left);
+        shares[k] += dollar_to(left, stand, stand[k]);
         k += 1;
     }
 }

@@ -1,13 +1,12 @@
-use Prim.Native.Nat.{_≤_}
-use mathlib.Core.Path.{_≡_, sym, ap, _∙_}
-use mathlib.Core.List.{map}
+use mathlib.Core.Path.{_∙_}
 use native.Mathlib.Omega.{arith}
 use lib.ListN.{length, length-map}
 use Rattle.counting.specs.Count.{total}
 use Rattle.pool.specs.Pool.{roundedDown, dollarsLeft}
 use Rattle.pool.proofs.Laws.{fit-total}
 use Rattle.pool.proofs.Rounded.{rounded-within}
-use Rattle.pool.proofs.Standing.{standings-long, cut-shares}
+use Rattle.pool.proofs.Standing.{standings-long}
+use Rattle.pool.proofs.Dollars.{cut-shares}
 use borrow.Author.Needs.{needs}
 use Rattle.pool.proofs.cut.Statement.{statement}
 use Rattle.pool.proofs.cut.Tie as tie

@@ -1,9 +1,8 @@
 -- The shares before place k have what falls to them, and those from there on are as they were.
 use Prim.Native.Nat.{ℕ, _+_, _-_, _≤_, _<_}
-use mathlib.Core.Path.{_≡_, refl, ap, sym, _∙_}
+use mathlib.Core.Path.{_≡_, refl, _∙_}
 use mathlib.Core.List.{List}
 use native.Mathlib.Omega.{arith}
-use lib.Dec.{ltb}
 use lib.ListN.{length, getD, length-set}
 use lib.Seq.{getD-set-other}
 use borrow.Author.Needs.{needs}
@@ -11,12 +10,12 @@ use Rattle.counting.specs.Choose.{one}
 use Rattle.counting.specs.Count.{each}
 use Rattle.counting.proofs.Fills.{Filled, each-none, each-more, each-all}
 use Rattle.counting.proofs.Tallies.{total-at}
-use Rattle.pool.specs.Standings.{above, given}
+use Rattle.pool.specs.Standings.{getsDollar, given}
 use Rattle.pool.proofs.give.Statement.{statement}
 use Rattle.pool.proofs.give.Tie as tie
 
 abbrev with-dollar : ℕ → List ℕ → List ℕ → ℕ → ℕ
-with-dollar left stand shares k = getD shares k 0 + one (ltb (above stand (getD stand k 0)) left)
+with-dollar left stand shares k = getD shares k 0 + one (getsDollar left stand (getD stand k 0))
 
 abbrev Inv-loop : tie.InvT-loop
 Inv-loop left stand shares₀ k₀ shares k =
@@ -33,17 +32,14 @@ loop-holds c =
     let a = c .before .before .args in
     (omega arith, refl, each-none _ _ (a .shares .now) refl, λ j h. refl)
 
-mul-above-of : tie.Need-mul-above-of Inv-loop μ-loop
-mul-above-of c = search needs
+mul-dollar-to : tie.Need-mul-dollar-to Inv-loop μ-loop
+mul-dollar-to c = search needs
 
-shared-slice-read-above-of : tie.Need-shared-slice-read-above-of Inv-loop μ-loop
-shared-slice-read-above-of c = search needs
+shared-slice-read-dollar-to : tie.Need-shared-slice-read-dollar-to Inv-loop μ-loop
+shared-slice-read-dollar-to c = search needs
 
-above-of-requires : tie.Need-above-of-requires Inv-loop μ-loop
-above-of-requires c κs = search needs
-
-one-where-requires : tie.Need-one-where-requires Inv-loop μ-loop
-one-where-requires c κs = search needs
+dollar-to-requires : tie.Need-dollar-to-requires Inv-loop μ-loop
+dollar-to-requires c κs = search needs
 
 mul-shares : tie.Need-mul-shares Inv-loop μ-loop
 mul-shares c = search needs
@@ -53,11 +49,10 @@ slice-read-shares c = search needs
 
 add-shares : tie.Need-add-shares Inv-loop μ-loop
 add-shares c =
-    let l = c .before .before .before .before .before in
-    let a = l .before .before .before .args in
+    let l = c .before .before .before .before in
+    let s = l .before .before .before in
     let old = l .loop .inv .3 (l .loop .k) (omega arith) in
-    let most = total-at (a .shares .now) (l .loop .k) in
-    omega (arith, c .before .one-where .ensures .1, l .before .before .before .pre)
+    omega (arith, total-at (s .args .shares .now) (l .loop .k), c .before .dollar-to .ensures .1, s .pre)
 
 slice-write-shares : tie.Need-slice-write-shares Inv-loop μ-loop
 slice-write-shares c = search needs
@@ -70,15 +65,14 @@ loop-less c = search needs
 
 loop-again : tie.Need-loop-again Inv-loop μ-loop
 loop-again c =
-    let l = c .before .before .before .before .before in
+    let l = c .before .before .before .before in
     let a = l .before .before .before .args in
     let k = l .loop .k in
-    let here : k < length (a .shares .now) = omega (arith, c .before .before .before .before .loop-test .taken, l .loop .inv .1) in
-    let old = l .loop .inv .3 k (omega arith) in
-    let dollar = c .before .one-where .ensures .0 ∙ ap (λ (n : ℕ). one (ltb n (a .left))) (c .before .before .above-of .ensures) in (
+    let here : k < length (a .shares .now) = omega (arith, c .before .before .before .loop-test .taken, l .loop .inv .1) in
+    let old = l .loop .inv .3 k (omega arith) in (
       omega arith,
       simp length-set (l .loop .inv .1),
-      each-more _ _ _ _ _ (l .loop .inv .2) here (omega (arith, old, dollar)),
+      each-more _ _ _ _ _ (l .loop .inv .2) here (omega (arith, old, c .before .dollar-to .ensures .0)),
       λ j h. getD-set-other (l .loop .shares) k j _ 0 (λ z. omega arith) ∙ l .loop .inv .3 j (omega arith),
     )
 
@@ -99,10 +93,9 @@ give-spec =
     Inv-loop
     μ-loop
     loop-holds
-    mul-above-of
-    shared-slice-read-above-of
-    above-of-requires
-    one-where-requires
+    mul-dollar-to
+    shared-slice-read-dollar-to
+    dollar-to-requires
     mul-shares
     slice-read-shares
     add-shares
