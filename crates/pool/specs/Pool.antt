@@ -12,6 +12,8 @@ use Rattle.pool.specs.declared.Shared.the-variants.{Full, Cut, Refused}
 use Rattle.pool.specs.declared.Pool.{Pool}
 
 -- ---- A pool above the maximum: each gets maximum × its win ÷ total, which is whole dollars and a fraction of one.
+-- The house's own example, wins of 20,000, 10,000 and 500 under 25,000: 16,393 dollars and 13,500 parts of 30,500; 8,196 and 22,000; 409 and
+-- 25,500. Two dollars are left. The third win stands first and the second next, so these get one each: 16,393, 8,197 and 410.
 
 -- the share rounded down to a dollar
 abbrev pub roundedDown : ℕ → ℕ → ℕ → ℕ

@@ -24,8 +24,8 @@ standings maximum pool wins i = each 7 (standingAt maximum pool wins i)
 unfoldable pub above : List ℕ → ℕ → ℕ
 above numbers own = tally (length numbers) (λ j. ltb own (getD numbers j 0))
 
--- A dollar falls to whoever has a fraction and fewer standings above its own than there are dollars. (Without a fraction it has more above it in
--- any case, and needn't be compared.)
+-- A dollar falls to whoever has a fraction and fewer standings above its own than there are dollars. Who has no fraction has at least that many
+-- above it, and needn't be compared.
 unfoldable pub getsDollar : ℕ → List ℕ → ℕ → Bool
 getsDollar left numbers own = leb 8 own && ltb (above numbers own) left
 
