@@ -3,6 +3,8 @@
 use Prim.Native.Nat.{ℕ, zero, suc, _+_}
 use mathlib.Core.Bool.{Bool, true, false, _&&_, _||_}
 use mathlib.Core.List.{List, [], _∷_, _++_}
+use lib.Dec.{ltb}
+use lib.ListN.{length, getD}
 use Rattle.counting.specs.Choose.{one}
 
 -- how many of the numbers below n pass the test
@@ -29,6 +31,10 @@ sumBelow (suc n) g = g n + sumBelow n g
 unfoldable pub count : (ℕ → Bool) → List ℕ → ℕ
 count f [] = 0
 count f (x ∷ xs) = one (f x) + count f xs
+
+-- how many numbers of the list are larger
+unfoldable pub above : List ℕ → ℕ → ℕ
+above numbers own = tally (length numbers) (λ j. ltb own (getD numbers j 0))
 
 -- each of the list passes the test
 unfoldable pub everyOf : (ℕ → Bool) → List ℕ → Bool

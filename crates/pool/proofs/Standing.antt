@@ -9,13 +9,13 @@ use lib.Dec.{eqb, ltb}
 use lib.ListN.{length, getD, set, replicate, length-set}
 use lib.Seq.{ext-getD, getD-set-same, getD-set-other}
 use borrow.Author.Tests.{lt-ltb, le-ltb, ltb-true, ltb-false, eq-eqb, eqb-true, eqb-false}
-use Rattle.counting.specs.Count.{total, gather}
+use Rattle.counting.specs.Count.{above, total, gather}
 use Rattle.counting.proofs.Tests.{clash, same-true}
 use Rattle.counting.proofs.Ranges.{tally-same}
 use Rattle.counting.proofs.Tallies.{tally-cut}
 use Rattle.counting.proofs.Gathers.{each-length, each-at}
 use Rattle.pool.specs.Pool.{fraction, fractionAt, standsBefore, ahead}
-use Rattle.pool.specs.Standings.{standing, standingAt, standings, above}
+use Rattle.pool.specs.Standings.{standing, standingAt, standings}
 
 module _ (f : ℕ → ℕ) where
   -- the larger number first, of equal ones the earlier place

@@ -6,7 +6,7 @@ use mathlib.Core.List.{List}
 use lib.Dec.{leb, ltb}
 use lib.ListN.{length, getD}
 use Rattle.counting.specs.Choose.{if_then_else_, one}
-use Rattle.counting.specs.Count.{tally, each}
+use Rattle.counting.specs.Count.{above, each}
 use Rattle.pool.specs.Pool.{fraction}
 
 -- By the fraction first, then by the place, one of seven. It is never 0.
@@ -19,10 +19,6 @@ standingAt maximum pool wins i k = if ltb k i then standing (fraction maximum po
 
 unfoldable pub standings : ℕ → ℕ → List ℕ → ℕ → List ℕ
 standings maximum pool wins i = each 7 (standingAt maximum pool wins i)
-
--- how many are larger
-unfoldable pub above : List ℕ → ℕ → ℕ
-above numbers own = tally (length numbers) (λ j. ltb own (getD numbers j 0))
 
 -- A dollar falls to whoever has a fraction and fewer standings above its own than there are dollars. Who has no fraction has at least that many
 -- above it, and needn't be compared.

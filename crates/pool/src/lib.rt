@@ -3,6 +3,8 @@
 // share is the entry on lent lists, pool_of the same of seven wins by value. Each answers every input and has no `requires`.
 // specs/Pool.antt says what is answered and what the lent list then holds; specs/Shares.antt has the laws of a share, the only
 // things that callers cite. All wins, shares and maximums are whole dollars.
+use counting::above_of;
+use counting::one_where;
 ghost use mathlib.Core.Path.{_≡_};
 ghost use mathlib.Core.Bool.{true};
 ghost use mathlib.Core.List.{map};
@@ -11,7 +13,7 @@ ghost use lib.ListN.{length};
 ghost use Rattle.counting.specs.Choose.{one};
 ghost use Rattle.counting.specs.Count.{total};
 ghost use Rattle.pool.specs.Pool.{roundedDown, sharesOf, winsFit, shareRefusal, shareAnswer, shareList, numberOf, poolOf};
-ghost use Rattle.pool.specs.Standings.{standing, standings, above, getsDollar, given};
+ghost use Rattle.pool.specs.Standings.{standings, getsDollar, given};
 
 // The answer of share.
 pub enum Shared {
@@ -79,22 +81,7 @@ fn total_of(wins: &[u64]) -> u64
     sum
 }
 
-// A test as a number.
-fn one_where(test: bool) -> u64
-    ensures { λ r. ⌜ (r ≡ one test) × (r ≤ 1) ⌝ }
-{
-    test as u64
-}
-
-// Where a win stands, as one number: the larger, the earlier.
-fn standing_of(part: u64, place: usize) -> u64
-    requires { ⌜ (part < 3500000) × (place < 7) ⌝ }
-    ensures { λ r. ⌜ r ≡ standing part place ⌝ }
-{
-    part * 8 + (7 - place as u64)
-}
-
-// Each win's share rounded down, into a list as long; and where each win stands.
+// Each win's share rounded down, into a list as long; and where each win stands, as one number: the larger, the earlier.
 fn round_down(wins: &[u64], maximum: u64, pool: u64, shares: &mut [u64]) -> [u64; 7]
     requires { ⌜ (length (now wins) ≡ length (now shares)) × (length (now wins) ≤ 7) × (winsFit (now wins) ≡ true) ⌝ }
     requires { ⌜ (maximum ≤ 75000) × (maximum < pool) × (pool ≤ 3500000) ⌝ }
@@ -106,23 +93,10 @@ fn round_down(wins: &[u64], maximum: u64, pool: u64, shares: &mut [u64]) -> [u64
     while i < wins.len() {
         let product = maximum * wins[i];
         shares[i] = product / pool;
-        stand[i] = standing_of(product % pool, i);
+        stand[i] = product % pool * 8 + (7 - i as u64);
         i += 1;
     }
     stand
-}
-
-// How many of the numbers are larger than this one. With no branch: which of two is larger can't be foretold.
-fn above_of(numbers: &[u64], own: u64) -> u64
-    ensures { λ r. ⌜ r ≡ above (now (numbers .entry)) own ⌝ }
-{
-    let mut count: u64 = 0;
-    let mut j = 0;
-    while j < numbers.len() {
-        count += one_where(own < numbers[j]);
-        j += 1;
-    }
-    count
 }
 
 // The dollar that falls to a win, by where it stands: none where it has no fraction, as below 8.

@@ -1,8 +1,8 @@
 use mathlib.Core.Path.{refl}
 use Rattle.counting.proofs.Tests.{one-le}
 use borrow.Author.Needs.{needs}
-use Rattle.pool.proofs.one_where.Statement.{statement}
-use Rattle.pool.proofs.one_where.Tie as tie
+use Rattle.counting.proofs.one_where.Statement.{statement}
+use Rattle.counting.proofs.one_where.Tie as tie
 
 cast-result : tie.Need-cast-result
 cast-result c = search needs

@@ -4,10 +4,10 @@ use native.Mathlib.Omega.{arith}
 use lib.Dec.{ltb}
 use lib.ListN.{length, getD}
 use borrow.Author.Needs.{needs}
 use Rattle.counting.proofs.Ranges.{Tallied, tally-none, tally-step, tally-done}
-use Rattle.pool.specs.Standings.{above}
-use Rattle.pool.proofs.above_of.Statement.{statement}
-use Rattle.pool.proofs.above_of.Tie as tie
+use Rattle.counting.specs.Count.{above}
+use Rattle.counting.proofs.above_of.Statement.{statement}
+use Rattle.counting.proofs.above_of.Tie as tie
 
 abbrev Inv-loop : tie.InvT-loop
 Inv-loop numbers own count₀ j₀ count j = Tallied (length numbers) (λ i. ltb own (getD numbers i 0)) count j
