@@ -121,25 +121,16 @@ fn give(left: u64, stand: &[u64], shares: &mut [u64])
     }
 }
 
-// The shares of a pool that exceeds the maximum.
-fn cut(wins: &[u64], maximum: u64, pool: u64, shares: &mut [u64])
-    requires { ⌜ (length (now wins) ≡ length (now shares)) × (length (now wins) ≤ 7) × (winsFit (now wins) ≡ true) ⌝ }
-    requires { ⌜ (maximum ≤ 75000) × (maximum < pool) × (pool ≡ total (now wins)) ⌝ }
-    ensures { λ r. ⌜ now (shares .exit) ≡ sharesOf maximum (now (wins .entry)) ⌝ }
-{
-    let stand = round_down(wins, maximum, pool, shares);
-    let left = maximum - total_of(shares);
-    give(left, &stand, shares);
-}
-
-// Every win's share, into a list as long: all in full, or cut.
+// Every win's share, into a list as long: cut where the pool exceeds the maximum, else in full.
 fn fill(wins: &[u64], maximum: u64, pool: u64, shares: &mut [u64])
     requires { ⌜ (length (now wins) ≡ length (now shares)) × (length (now wins) ≤ 7) × (winsFit (now wins) ≡ true) ⌝ }
     requires { ⌜ (maximum ≤ 75000) × (pool ≡ total (now wins)) ⌝ }
     ensures { λ r. ⌜ now (shares .exit) ≡ sharesOf maximum (now (wins .entry)) ⌝ }
 {
     if maximum < pool {
-        cut(wins, maximum, pool, shares);
+        let stand = round_down(wins, maximum, pool, shares);
+        let left = maximum - total_of(shares);
+        give(left, &stand, shares);
         return;
     }
     let mut i = 0;
