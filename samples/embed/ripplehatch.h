@@ -86,8 +86,8 @@ uint8_t ripplehatch_name_lo(const uint8_t *cards, size_t count, size_t *high);
  * other, what the best five of the six are called. Else answers 18 or 11. */
 uint8_t ripplehatch_name_six(const uint8_t *cards, size_t count, size_t *name);
 
-/* Shares a maximum among up to seven wins, in dollars. Answers 0, and shares holds the share of each win: all in full where they are within the maximum, else
-   what comes to exactly the maximum. Else answers 19 or 20. */
+/* Shares a maximum among up to seven wins, in dollars. Answers 0, and shares holds the share of each win: all in full where they are within the maximum, and
+   otherwise what comes to exactly the maximum. A refusal, 19 or 20, leaves it as it was. */
 uint8_t ripplehatch_share(const uint64_t *wins, size_t count, uint64_t maximum, uint64_t *shares, size_t room);
 
 #ifdef __cplusplus
