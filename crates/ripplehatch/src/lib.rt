@@ -16,6 +16,7 @@ use pool::share;
 use reading::read_file;
 use reading::refused_part;
 use settlement::FileSettlement;
+use settlement::file_number;
 use settlement::settle_file;
 ghost use mathlib.Core.Path.{_≡_};
 ghost use Prim.Native.Nat.{_*_};
@@ -29,15 +30,6 @@ ghost use Rattle.pool.specs.Pool.{shareAnswer, shareList, numberOf};
 ghost use Rattle.reading.specs.File.{readFile, refusedPart};
 ghost use Rattle.settlement.specs.Settle.{fileAnswer, fileList, fileNumber};
 ghost use Rattle.ripplehatch.specs.Told.{fullTold, paidTold, placeTold, nameTold, loTold};
-
-fn number_of(answer: FileSettlement) -> u8
-    ensures { λ r. ⌜ r ≡ fileNumber answer ⌝ }
-{
-    match answer {
-        FileSettlement::Paid { full, paid } => 0,
-        FileSettlement::Refused { number, place } => number,
-    }
-}
 
 fn full_told(answer: FileSettlement, was: u64) -> u64
     ensures { λ r. ⌜ r ≡ fullTold answer was ⌝ }
@@ -86,7 +78,7 @@ pub extern "C" fn ripplehatch_settle_file(
     *full = full_told(answer, *full);
     *paid = paid_told(answer, *paid);
     *place = place_told(answer, *place);
-    number_of(answer)
+    file_number(answer)
 }
 
 // The byte of the file at which its refused part begins, and how long it is: 16 for a refused record, the odd bytes for 2, else 0, at the end.

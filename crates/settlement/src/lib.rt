@@ -37,6 +37,26 @@ pub enum FileSettlement {
     Refused { number: u8, place: usize },
 }
 
+// The refusal's number of an answer to a file, 0 where it is paid.
+pub fn file_number(answer: FileSettlement) -> u8
+    ensures { λ r. ⌜ r ≡ fileNumber answer ⌝ }
+{
+    match answer {
+        FileSettlement::Paid { full, paid } => 0,
+        FileSettlement::Refused { number, place } => number,
+    }
+}
+
+// Its place, 0 where it is paid.
+pub fn file_place(answer: FileSettlement) -> usize
+    ensures { λ r. ⌜ r ≡ filePlace answer ⌝ }
+{
+    match answer {
+        FileSettlement::Paid { full, paid } => 0,
+        FileSettlement::Refused { number, place } => place,
+    }
+}
+
 // A list copied into one as long.
 fn copy(from: &[u64], to: &mut [u64])
     requires { ⌜ length (now from) ≡ length (now to) ⌝ }

@@ -15,14 +15,14 @@ paid-told-requires c κs = search needs
 place-told-requires : tie.Need-place-told-requires
 place-told-requires c κs = search needs
 
-number-of-requires : tie.Need-number-of-requires
-number-of-requires c κs = search needs
+file-number-requires : tie.Need-file-number-requires
+file-number-requires c κs = search needs
 
 same-length : tie.Need-same-length
 same-length c = search needs
 
 returns : tie.Need-returns
-returns c = let e = c .before .before .before .before .before .before .before .before .before .settle-file .ensures in (simp (c .number-of .ensures, e .0) refl, (e .1 .1 .1 .1, (simp (c .before .before .before .before .before .full-told .ensures, e .0) refl, (simp (c .before .before .before .paid-told .ensures, e .0) refl, simp (c .before .place-told .ensures, e .0) refl))))
+returns c = let e = c .before .before .before .before .before .before .before .before .before .settle-file .ensures in (simp (c .file-number .ensures, e .0) refl, (e .1 .1 .1 .1, (simp (c .before .before .before .before .before .full-told .ensures, e .0) refl, (simp (c .before .before .before .paid-told .ensures, e .0) refl, simp (c .before .place-told .ensures, e .0) refl))))
 
 pub ripplehatch-settle-file-spec : {M : Type 1} → statement M
 ripplehatch-settle-file-spec =
@@ -32,6 +32,6 @@ ripplehatch-settle-file-spec =
     full-told-requires
     paid-told-requires
     place-told-requires
-    number-of-requires
+    file-number-requires
     same-length
     returns)

@@ -1,6 +1,6 @@
 use borrow.Author.Needs.{needs}
-use Rattle.ripplehatch.proofs.number_of.Statement.{statement}
-use Rattle.ripplehatch.proofs.number_of.Tie as tie
+use Rattle.settlement.proofs.file_number.Statement.{statement}
+use Rattle.settlement.proofs.file_number.Tie as tie
 
 enum-known-answer : tie.Need-enum-known-answer
 enum-known-answer c = search needs
@@ -14,5 +14,5 @@ returns c = simp (c .before .answer .given .1)
 returns-2 : tie.Need-returns-2
 returns-2 c = search needs
 
-pub number-of-spec : {M : Type 1} → statement M
-number-of-spec = tie.close (tie.spec enum-known-answer enum-known-answer-2 returns returns-2)
+pub file-number-spec : {M : Type 1} → statement M
+file-number-spec = tie.close (tie.spec enum-known-answer enum-known-answer-2 returns returns-2)
