@@ -4,13 +4,13 @@
 -- `requires`. So what is shown here of the definitions holds of the code: `takes` is what `held::take` answers to a record, `settleAnswer` and
 -- `settleList` are `settlement::settle`'s, `fileAnswer` and `fileList` `settle_file`'s, `prefixAnswer` and `prefixList` `settle_prefix`'s,
 -- `refusedPart` `reading::refused_part`'s, `shareAnswer` and `shareList` `pool::share`'s, `writeAnswer` and `writeList` `writing::write_round`'s; `fileTakes`,
--- `rewriteAnswer` and `rewriteList` are those of `filing`, where a round is held as its file.
+-- `rewriteAnswer` and `rewriteList` are those of `filing`, where a round is held as its file; `shiftAnswer` and `shiftList` are `shifts::settle_shift`'s.
 -- Assumes nothing.
-use Prim.Native.Nat.{ℕ, _*_, _-_, _%_, _≤_}
+use Prim.Native.Nat.{ℕ, _*_, _-_, _%_, _≤_, _<_}
 use mathlib.Core.Path.{_≡_, refl, sym, ap, _∙_}
 use mathlib.Core.Bool.{true}
 use mathlib.Core.List.{List, [], _∷_}
-use lib.ListN.{length, take, drop}
+use lib.ListN.{length, getD, take, drop, replicate}
 use Rattle.counting.specs.Count.{total}
 use Rattle.counting.proofs.Once.{one-answer}
 use Rattle.records.specs.Bytes.{areBytes}
@@ -43,6 +43,11 @@ use Rattle.settlement.specs.declared.Settlement.the-variants.{Paid}
 use Rattle.settlement.specs.declared.FileSettlement.{FileSettlement}
 use Rattle.settlement.specs.declared.FileSettlement.the-variants.{Paid as PaidFile}
 use Rattle.settlement.specs.Settle.{settleAnswer, settleList, settleNumber, readAnswer, readList, fileAnswer, fileList, prefixAnswer, prefixList, fileNumber, filePlace}
+use Rattle.cutting.specs.Rounds.{shiftRounds, roundCount}
+use Rattle.shifts.specs.declared.ShiftAnswer.{ShiftAnswer}
+use Rattle.shifts.specs.Shift.{roundAmounts, roundAnswer, answerLong, listsFit, shiftAnswer, shiftList, shiftNumber}
+use Rattle.shifts.proofs.Answers.{shift-left}
+use Rattle.apart.proofs.Laws.{settled-round}
 use Rattle.demands.specs.Floor.{floorOf, paidOf, Demand3}
 use Rattle.demands.specs.Whole.{wholeFile, wholeRound, lowerFile, lowerRound}
 use Rattle.demands.proofs.Settled.{settle-left, settled, settle-paid, read-left, read-done, read-paid, read-most, refused-place}
@@ -79,6 +84,12 @@ demand-1-write = write-left
 -- and of a round that is held as its file.
 pub demand-1-rewrite : (l lent : List ℕ) → (writeNumber (rewriteAnswer l (length lent)) ≡ 0 → ⊥) → rewriteList l lent ≡ lent
 demand-1-rewrite = rewrite-left
+
+-- A refused shift changes neither list.
+pub demand-1-shift : (l amounts answers : List ℕ) → (shiftNumber (shiftAnswer l (listsFit l amounts answers)) ≡ 0 → ⊥)
+    → (shiftList roundAmounts l (listsFit l amounts answers) amounts ≡ amounts) × (shiftList roundAnswer l (listsFit l amounts answers) answers ≡ answers)
+demand-1-shift l amounts answers n =
+    (shift-left roundAmounts l (listsFit l amounts answers) amounts n, shift-left roundAnswer l (listsFit l amounts answers) answers n)
 
 -- ==== Demand 2. A round is refused or settled exactly as the rules say, as document 01 fixes them: the contracts.
 
@@ -120,6 +131,13 @@ demand-2-rewrite l lent = both-once (rewriteAnswer l (length lent)) (rewriteList
 
 pub demand-2-take-file : (l b : List ℕ) (a c : Answer) → a ≡ fileTakes l b → c ≡ fileTakes l b → a ≡ c
 demand-2-take-file l b = one-answer (fileTakes l b)
+
+pub demand-2-shift : (l amounts answers : List ℕ) (a b : ShiftAnswer) (x y v w : List ℕ) →
+    let fit = listsFit l amounts answers in
+    (a ≡ shiftAnswer l fit) × (x ≡ shiftList roundAmounts l fit amounts) × (v ≡ shiftList roundAnswer l fit answers)
+    → (b ≡ shiftAnswer l fit) × (y ≡ shiftList roundAmounts l fit amounts) × (w ≡ shiftList roundAnswer l fit answers) → (a ≡ b) × (x ≡ y) × (v ≡ w)
+demand-2-shift l amounts answers a b x y v w p q =
+    (one-answer _ a b (p .0) (q .0), one-answer _ x y (p .1) (q .1), one-answer _ v w (p .2) (q .2))
 
 -- An accepted settlement: records, each accepted, lead to a finished round. The answer is that round's pool, and the list that round's results.
 pub record Accepted {A : Type 0} (paid : ℕ → ℕ → A) (answer : A) (list : List ℕ) (records : List (List ℕ)) (round : Round) : Type 0 where
@@ -234,6 +252,15 @@ pub demand-3-prefix : (first : List ℕ) (after : ℕ) (lent : List ℕ) → are
     → (r : Round) × AcceptedPrefix first after lent r × Demand3 r (prefixList first after lent)
 demand-3-prefix first after lent h z =
     let a = accepted-led-prefix first after lent h z .1 in (a .0, a .1, accepted-3 PaidFile _ _ (fileRecords first) (a .0) (a .1))
+
+-- And of every settled round of a shift, in its own part of the list: round k, whose number among the answers is 0.
+pub demand-3-shift : (l amounts answers : List ℕ) → areBytes l ≡ true → shiftNumber (shiftAnswer l (listsFit l amounts answers)) ≡ 0
+    → (k : ℕ) → k < roundCount l → getD (shiftList roundAnswer l (listsFit l amounts answers) answers) (answerLong * k) 0 ≡ 0
+    → (r : Round) × AcceptedFile (getD (shiftRounds l) k []) (replicate resultsLong 0) r
+    × Demand3 r (take resultsLong (drop (resultsLong * k) (shiftList roundAmounts l (listsFit l amounts answers) amounts)))
+demand-3-shift l amounts answers bytes z k h none =
+    let s = settled-round l (listsFit l amounts answers) z amounts answers bytes k h none in
+    let d = demand-3-file (getD (shiftRounds l) k []) (replicate resultsLong 0) (s .0) (s .1) in (d .0, d .1, rw (s .2) (d .2))
 
 -- The whole round of document 01: its file is accepted, and its records lead to that round.
 pub whole-accepted : (lent : List ℕ) → length lent ≡ resultsLong → AcceptedFile wholeFile lent wholeRound

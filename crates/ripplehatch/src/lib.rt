@@ -3,6 +3,7 @@
 // ripplehatch.h declares them. Each answers a refusal's number, or 0, and tells the rest in what the caller lends; what is not told is left as it was,
 // so a refusal changes nothing that was lent but the place. None has a `requires`.
 use allsix::name_six_told;
+use cutting::count_rounds;
 use filing::rewrite_told;
 use filing::take_told;
 use names::FiveAnswer;
@@ -18,10 +19,12 @@ use reading::refused_part;
 use settlement::FileSettlement;
 use settlement::file_number;
 use settlement::settle_file;
+use shifts::settle_told;
 ghost use mathlib.Core.Path.{_≡_};
 ghost use Prim.Native.Nat.{_*_};
 ghost use lib.ListN.{length};
 ghost use Rattle.allsix.specs.Six.{answerSix, sixTold};
+ghost use Rattle.cutting.specs.Rounds.{roundCount};
 ghost use Rattle.hands.specs.Hand.{handRefusal};
 ghost use Rattle.filing.specs.Filed.{fileTakeRefusal, fileTakes, finishedTold, rewriteRefusal, rewriteList};
 ghost use Rattle.names.specs.Five.{answerFive, fiveNumber};
@@ -29,6 +32,7 @@ ghost use Rattle.names.specs.Lo.{answerLo, loHigh, loNumber};
 ghost use Rattle.pool.specs.Pool.{shareAnswer, shareList, numberOf};
 ghost use Rattle.reading.specs.File.{readFile, refusedPart};
 ghost use Rattle.settlement.specs.Settle.{fileAnswer, fileList, fileNumber};
+ghost use Rattle.shifts.specs.Shift.{roundAmounts, roundAnswer, listsFit, shiftRefusal, shiftAnswer, shiftList, roundsTold, placeTold as shiftPlaceTold};
 ghost use Rattle.ripplehatch.specs.Told.{fullTold, paidTold, placeTold, nameTold, loTold};
 
 fn full_told(answer: FileSettlement, was: u64) -> u64
@@ -90,6 +94,33 @@ pub extern "C" fn ripplehatch_refused_part(file: &[u8], long: &mut usize) -> usi
     *long = refused_part(file).len();
     let reading = read_file(file);
     16 * reading.place
+}
+
+// How many rounds a shift has: it is lent 35 amounts and two numbers for each.
+#[no_mangle]
+pub extern "C" fn ripplehatch_count_rounds(file: &[u8]) -> usize
+    ensures { λ r. ⌜ r ≡ roundCount (now (file .entry)) ⌝ }
+{
+    count_rounds(file)
+}
+
+// Settles a shift into a list of 35 numbers a round and one of two numbers a round, its refusal's number and place. Answers 0 and tells how many rounds there are; or answers 2 or 1
+// and tells its place.
+#[no_mangle]
+pub extern "C" fn ripplehatch_settle_shift(
+    file: &[u8],
+    amounts: &mut [u64],
+    answers: &mut [u64],
+    rounds: &mut usize,
+    place: &mut usize,
+) -> u8
+    ensures number { λ r. ⌜ r ≡ shiftRefusal (now (file .entry)) (listsFit (now (file .entry)) (now (amounts .entry)) (now (answers .entry))) ⌝ }
+    ensures amounts { λ r. ⌜ now (amounts .exit) ≡ shiftList roundAmounts (now (file .entry)) (listsFit (now (file .entry)) (now (amounts .entry)) (now (answers .entry))) (now (amounts .entry)) ⌝ }
+    ensures answers { λ r. ⌜ now (answers .exit) ≡ shiftList roundAnswer (now (file .entry)) (listsFit (now (file .entry)) (now (amounts .entry)) (now (answers .entry))) (now (answers .entry)) ⌝ }
+    ensures rounds { λ r. ⌜ now (rounds .exit) ≡ roundsTold (shiftAnswer (now (file .entry)) (listsFit (now (file .entry)) (now (amounts .entry)) (now (answers .entry)))) (now (rounds .entry)) ⌝ }
+    ensures place { λ r. ⌜ now (place .exit) ≡ shiftPlaceTold (shiftAnswer (now (file .entry)) (listsFit (now (file .entry)) (now (amounts .entry)) (now (answers .entry)))) (now (place .entry)) ⌝ }
+{
+    settle_told(file, amounts, answers, rounds, place)
 }
 
 // Answers one record to a round that is held as the file of it. Answers 0 where the record is accepted, and tells whether the round is then finished, 1 or

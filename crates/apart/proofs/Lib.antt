@@ -1,0 +1,3 @@
+pub mod Joins
+pub mod Single
+pub mod Laws
