@@ -1,10 +1,13 @@
 //! The printed answers.
 
+use std::io::{self, Write};
+
 use crate::held::Step;
 use crate::held_file;
 use crate::reading::{read, Refusal, RECORD};
 use crate::settle::{first_result, part_of_answer, settle, settle_round};
 use crate::settle::{Answer, Paid, RESULTS_A_SEAT};
+use crate::shift::{check_length, rounds};
 
 /// What the settling program prints for a file: "each playing seat's number
 /// and [five] amounts in cents", All-Six last; "then the pool in dollars, full
@@ -31,14 +34,7 @@ pub fn lines(file: &[u8]) -> String {
 /// Appends the one line that a file of a stream is answered with.
 pub fn push_stream_line(out: &mut Vec<u8>, file: &[u8]) {
     let answer = settle(file);
-    match &answer {
-        Answer::Paid(settled) => push_paid(out, settled),
-        Answer::Refused { number, place } => {
-            push_refused(out, *number);
-            out.extend_from_slice(b" at");
-            push_numbers(out, &[*place as u64]);
-        }
-    }
+    push_answer(out, &answer);
     let (begin, part) = part_of_answer(file, &answer);
     out.extend_from_slice(b" part");
     push_numbers(out, &[begin as u64]);
@@ -46,6 +42,31 @@ pub fn push_stream_line(out: &mut Vec<u8>, file: &[u8]) {
     push_taken(out, file);
     push_written(out, file);
     out.push(b'\n');
+}
+
+/// Writes what a shift is answered with, a line for each round. It is lent no
+/// list, so 1 doesn't arise here.
+pub fn write_shift(to: &mut impl Write, file: &[u8]) -> io::Result<()> {
+    let mut line = Vec::new();
+    if let Err(Refusal { number, place }) = check_length(file) {
+        push_refused_at(&mut line, number, place);
+        line.push(b'\n');
+        return to.write_all(&line);
+    }
+    for round in rounds(file) {
+        line.clear();
+        push_answer(&mut line, &settle(round));
+        line.push(b'\n');
+        to.write_all(&line)?;
+    }
+    Ok(())
+}
+
+fn push_answer(out: &mut Vec<u8>, answer: &Answer) {
+    match answer {
+        Answer::Paid(settled) => push_paid(out, settled),
+        Answer::Refused { number, place } => push_refused_at(out, *number, *place),
+    }
 }
 
 /// Appends `take` and what the file without its last record, or without the
@@ -111,6 +132,13 @@ pub(crate) fn push_refused(out: &mut Vec<u8>, number: u8) {
     push_numbers(out, &[u64::from(number)]);
 }
 
+/// Appends `refused`, the number, `at` and the place.
+pub(crate) fn push_refused_at(out: &mut Vec<u8>, number: u8, place: usize) {
+    push_refused(out, number);
+    out.extend_from_slice(b" at");
+    push_numbers(out, &[place as u64]);
+}
+
 fn push_hex(out: &mut Vec<u8>, part: &[u8]) {
     const DIGITS: &[u8; 16] = b"0123456789abcdef";
     if !part.is_empty() {
@@ -123,7 +151,7 @@ fn push_hex(out: &mut Vec<u8>, part: &[u8]) {
 }
 
 /// Appends each number with a space before it.
-fn push_numbers(out: &mut Vec<u8>, numbers: &[u64]) {
+pub(crate) fn push_numbers(out: &mut Vec<u8>, numbers: &[u64]) {
     for &number in numbers {
         out.push(b' ');
         push_number(out, number);

@@ -1,7 +1,7 @@
-//! A settler for rounds of Cajun Stud and a writer of their files, written from
-//! document 01, requests a to c of document 02 and their readings as a plain
-//! rule sheet, with a generator of round files: it exists to be compared with
-//! another settler.
+//! A settler for rounds of Cajun Stud and for shifts of them, and a writer of
+//! round files, written from document 01, requests a to d of document 02 and
+//! their readings as a plain rule sheet, with a generator of round files and
+//! shifts: it exists to be compared with another settler.
 
 pub mod answer;
 pub mod cards;
@@ -16,6 +16,9 @@ pub mod pool;
 pub mod reading;
 pub mod records;
 pub mod settle;
+pub mod shift;
+pub mod shift_stream;
+pub mod shift_tally;
 pub mod stream;
 pub mod tally;
 pub mod text;

@@ -5,22 +5,29 @@ use std::io::{self, BufReader, BufWriter, ErrorKind, Read, Write};
 use std::num::{IntErrorKind, ParseIntError};
 use std::process::ExitCode;
 
+use oracle::generate::shifts;
 use oracle::reading::Refusal;
-use oracle::{answer, generate, handmade, stream, tally, text, writing};
+use oracle::{answer, generate, handmade, shift_stream, shift_tally, stream, tally, text, writing};
 
 const HELP: &str = "\
 oracle: settles rounds of Cajun Stud, and makes rounds to be settled
 
-  oracle settle [FILE]       settle one round file
-  oracle rewrite [FILE]      a round file to the file of its held round
-  oracle stream              settle a stream of round files, one line each
-  oracle generate N SEED     write a stream of N round files
-  oracle tally N SEED        count what comes in those N files
-  oracle pack [FILE]         a readable text to its round file
-  oracle show [FILE]         a round file to its readable text
-  oracle show --stream K     the K-th file, from 0, of a stream
-  oracle handmade            write a stream of held rounds made by hand
-  oracle hold                answer a stream of held rounds, one line each
+  oracle settle [FILE]             settle one round file
+  oracle rewrite [FILE]            a round file to the file of its held round
+  oracle shift [FILE]              settle a shift file, one line a round
+  oracle stream                    settle a stream of round files, one line each
+  oracle stream --shifts           settle a stream of shifts
+  oracle generate N SEED           write a stream of N round files
+  oracle generate --shifts N SEED  write a stream of N shifts
+  oracle tally N SEED              count what comes in those N files
+  oracle tally --shifts N SEED     count what comes in those N shifts
+  oracle join N SEED               join N generated round files to a shift file
+  oracle pack [FILE]               a readable text to its round or shift file
+  oracle show [FILE]               a round or shift file to its readable text
+  oracle show --stream K           the K-th file, from 0, of a stream
+  oracle show --stream --shifts K  the K-th shift, from 0, of a stream of shifts
+  oracle handmade                  write a stream of held rounds made by hand
+  oracle hold                      answer a stream of held rounds, one line each
 
 Without FILE, and for stream and hold, standard input is read.
 'oracle COMMAND --help' says more.
@@ -45,8 +52,21 @@ rising seat. A refused file, and the empty one, writes nothing: 'refused N at R'
 goes to standard error, and the exit status is 1.
 ";
 
+const SHIFT_HELP: &str = "\
+oracle shift [FILE]
+
+Reads a shift file, rounds joined end to end: record 0 starts a round, and so
+does every later record of kind 1. Prints a line a round, R being the place
+within the round:
+  paid A1 ... A35 pool F P
+  refused N at R
+A shift that isn't of whole records prints 'refused 2 at R' alone, R being the
+count of whole records; the empty one prints nothing.
+";
+
 const STREAM_HELP: &str = "\
 oracle stream
+oracle stream --shifts
 
 Standard input is a run of round files, each preceded by its length as two
 bytes, low byte first. Prints one line a file:
@@ -60,20 +80,45 @@ The whole file is held too, and written: RECORDS are those of the written file
 from record S on, from 0, each in hex without the zero bytes at its end; the S
 before them are the same as those of the file. 'written refused 17' or
 'written refused 16' stands where it isn't written.
+
+With --shifts standard input is a run of shifts, each preceded by how many
+amounts are lent, how many answers are lent and the length of its file, as two
+bytes each, low byte first. Prints for each, with K the count of its rounds:
+  rounds K settled K
+  rounds K refused N at R kept
+'kept' says that neither list was changed, 'changed' that one was. After the
+line of a settled shift comes a line a round, from the two lists: its refusal
+number and place, 0 0 when settled, and its amounts.
+  answer N R amounts A1 ... A35
 ";
 
 const GENERATE_HELP: &str = "\
 oracle generate N SEED
+oracle generate --shifts N SEED
 
 Writes a stream of N round files, valid and damaged, the same for the same SEED
 everywhere. The first M files do not depend on N.
+With --shifts it is a stream of N shifts, as 'oracle stream --shifts' reads it:
+round files, valid and damaged, joined end to end, with lists of right and wrong
+lengths. A shift has at most 4096 amounts, 256 answers and 65535 bytes. The
+first M shifts do not depend on N.
 ";
 
 const TALLY_HELP: &str = "\
 oracle tally N SEED
+oracle tally --shifts N SEED
 
-Counts what comes in the N files of 'oracle generate N SEED', as the settler
-found it.
+Counts what comes in the N files of 'oracle generate N SEED', or in the N shifts
+of 'oracle generate --shifts N SEED', as the settler found it.
+";
+
+const JOIN_HELP: &str = "\
+oracle join N SEED
+
+Writes one shift file of exactly N rounds: the files of 'oracle generate' with
+that SEED, in order, joined end to end until there are N. Only files that are
+each one round that begins with a table record are taken: whole records, at
+least one, the first of kind 1 and no other.
 ";
 
 const PACK_HELP: &str = "\
@@ -97,10 +142,13 @@ its All-Six wager; where that is left out it is 0:
 const SHOW_HELP: &str = "\
 oracle show [FILE]
 oracle show --stream K
+oracle show --stream --shifts K
 
-Reads a round file, or with --stream the K-th file (from 0) of a stream on
-standard input, and prints the text that 'oracle pack' packs to the same bytes.
-With --stream the file's answer line stands above it as a comment.
+Reads a round or shift file, or with --stream the K-th file (from 0) of a stream
+on standard input, and prints the text that 'oracle pack' packs to the same
+bytes. With --stream the file's answer line stands above it as a comment.
+With --stream --shifts it is the K-th shift of a stream of shifts; how many
+amounts and answers are lent and its answer lines stand above it.
 ";
 
 const HANDMADE_HELP: &str = "\
@@ -180,13 +228,23 @@ fn run(words: &[&str]) -> Result<(), Failure> {
         [command, "--help" | "-h"] => print(help_of(command)?.as_bytes()),
         ["settle", file @ ..] => print(answer::lines(&input(file)?).as_bytes()),
         ["rewrite", file @ ..] => rewrite(file),
+        ["shift", file @ ..] => answer_shift(file),
         ["stream"] => answer_stream(),
+        ["stream", "--shifts"] => answer_shifts(),
         ["generate", count, seed] => write_generated(number("N", count)?, number("SEED", seed)?),
+        ["generate", "--shifts", count, seed] => {
+            write_shifts(number("N", count)?, number("SEED", seed)?)
+        }
         ["tally", count, seed] => {
             print(tally::table(number("N", count)?, number("SEED", seed)?).as_bytes())
         }
+        ["tally", "--shifts", count, seed] => {
+            print(shift_tally::table(number("N", count)?, number("SEED", seed)?).as_bytes())
+        }
+        ["join", count, seed] => write_joined(number("N", count)?, number("SEED", seed)?),
         ["pack", file @ ..] => pack(file),
         ["show", "--stream", place] => show_of_stream(number("K", place)?),
+        ["show", "--stream", "--shifts", place] => show_of_shifts(number("K", place)?),
         ["show", file @ ..] => print(text::show(&input(file)?).as_bytes()),
         ["handmade"] => write_handmade(),
         ["hold"] => answer_held(),
@@ -202,9 +260,11 @@ fn help_of(command: &str) -> Result<&'static str, Failure> {
     match command {
         "settle" => Ok(SETTLE_HELP),
         "rewrite" => Ok(REWRITE_HELP),
+        "shift" => Ok(SHIFT_HELP),
         "stream" => Ok(STREAM_HELP),
         "generate" => Ok(GENERATE_HELP),
         "tally" => Ok(TALLY_HELP),
+        "join" => Ok(JOIN_HELP),
         "pack" => Ok(PACK_HELP),
         "show" => Ok(SHOW_HELP),
         "handmade" => Ok(HANDMADE_HELP),
@@ -248,10 +308,25 @@ fn rewrite(file: &[&str]) -> Result<(), Failure> {
     print(&writing::rewritten(&input(file)?).map_err(Failure::Refused)?)
 }
 
+fn answer_shift(file: &[&str]) -> Result<(), Failure> {
+    let file = input(file)?;
+    let mut to = BufWriter::with_capacity(1 << 16, io::stdout().lock());
+    answer::write_shift(&mut to, &file)?;
+    Ok(to.flush()?)
+}
+
 fn answer_stream() -> Result<(), Failure> {
     let mut from = BufReader::with_capacity(1 << 16, io::stdin().lock());
     let mut to = BufWriter::with_capacity(1 << 16, io::stdout().lock());
     let answered = stream::answer_all(&mut from, &mut to);
+    to.flush()?;
+    Ok(answered?)
+}
+
+fn answer_shifts() -> Result<(), Failure> {
+    let mut from = BufReader::with_capacity(1 << 16, io::stdin().lock());
+    let mut to = BufWriter::with_capacity(1 << 16, io::stdout().lock());
+    let answered = shift_stream::answer_all(&mut from, &mut to);
     to.flush()?;
     Ok(answered?)
 }
@@ -261,6 +336,23 @@ fn write_generated(count: u64, seed: u64) -> Result<(), Failure> {
     let generator = generate::Generator::new(seed);
     for place in 0..count {
         stream::put_file(&mut to, &generator.make(place).file)?;
+    }
+    Ok(to.flush()?)
+}
+
+fn write_shifts(count: u64, seed: u64) -> Result<(), Failure> {
+    let mut to = BufWriter::with_capacity(1 << 16, io::stdout().lock());
+    let generator = shifts::ShiftGenerator::new(seed);
+    for place in 0..count {
+        shift_stream::put_item(&mut to, &generator.make(place))?;
+    }
+    Ok(to.flush()?)
+}
+
+fn write_joined(count: u64, seed: u64) -> Result<(), Failure> {
+    let mut to = BufWriter::with_capacity(1 << 16, io::stdout().lock());
+    for (_, file) in (0..count).zip(shifts::single_rounds(seed)) {
+        to.write_all(&file)?;
     }
     Ok(to.flush()?)
 }
@@ -298,4 +390,14 @@ fn show_of_stream(place: u64) -> Result<(), Failure> {
     answer::push_stream_line(&mut out, &file);
     out.extend_from_slice(text::show(&file).as_bytes());
     print(&out)
+}
+
+fn show_of_shifts(place: u64) -> Result<(), Failure> {
+    let mut from = BufReader::new(io::stdin().lock());
+    let mut item = shift_stream::Item::default();
+    for before in 0..=place {
+        item = shift_stream::next_item(&mut from)?
+            .ok_or_else(|| Failure::Input(format!("the stream has {before} shifts")))?;
+    }
+    print(shift_stream::show(&item).as_bytes())
 }

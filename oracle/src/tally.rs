@@ -174,7 +174,7 @@ const WRITTEN: [&str; 9] = [
     "written with a fold on street three",
     "refused 16",
 ];
-const STAGES: [&str; 11] = [
+pub(crate) const STAGES: [&str; 11] = [
     "the table",
     "seats",
     "one deck part",
@@ -195,7 +195,10 @@ pub struct Section {
 }
 
 impl Section {
-    fn new<T: ToString>(title: &'static str, labels: impl IntoIterator<Item = T>) -> Section {
+    pub(crate) fn new<T: ToString>(
+        title: &'static str,
+        labels: impl IntoIterator<Item = T>,
+    ) -> Section {
         let rows = labels.into_iter().map(|label| (label.to_string(), 0));
         Section {
             title,
@@ -221,7 +224,7 @@ impl Section {
         Section::new(title, names.iter().flat_map(with_place))
     }
 
-    fn count(&mut self, row: usize) {
+    pub(crate) fn count(&mut self, row: usize) {
         if let Some((_, count)) = self.rows.get_mut(row) {
             *count += 1;
         }
@@ -611,7 +614,7 @@ impl Tally {
     }
 }
 
-fn print_section(text: &mut String, section: &Section) {
+pub(crate) fn print_section(text: &mut String, section: &Section) {
     let _ = writeln!(text, "\n{}", section.title);
     for (label, count) in &section.rows {
         let _ = writeln!(text, "{count:>9}  {label}");
@@ -661,7 +664,7 @@ fn pool_level(full: u64, most: u64) -> usize {
 }
 
 /// The place in `STAGES` of a round with a table.
-fn stage(held: &Held) -> usize {
+pub(crate) fn stage(held: &Held) -> usize {
     let playing = || (0..7).filter(|&seat| held.wagers[0][seat] > 0);
     match usize::from(held.parts) {
         0 if playing().count() == 0 => return 0,

@@ -149,6 +149,155 @@ fn a_stream_that_ends_inside_a_file() {
     }
 }
 
+/// A round with a fault of number 4 at record 1.
+fn bad_round() -> Vec<u8> {
+    let mut bad = round();
+    bad[16 + 15] = 1;
+    bad
+}
+
+#[test]
+fn settles_a_shift() {
+    let paid = format!(
+        "paid 2183300 20500 10500 0 0 516700{} pool 600000 25000\n",
+        " 0".repeat(29)
+    );
+    let file = [&round()[..], &bad_round(), &round()[..32], &round()].concat();
+    let lines = format!("{paid}refused 4 at 1\nrefused 16 at 2\n{paid}");
+    assert_eq!(printed(&["shift"], &file), lines);
+    assert_eq!(printed(&["shift"], &[]), "");
+    assert_eq!(printed(&["shift"], &[0; 32]), "refused 3 at 0\n");
+    let tailed = [&file[..], &[1; 7]].concat();
+    assert_eq!(printed(&["shift"], &tailed), "refused 2 at 41\n");
+    assert_eq!(printed(&["shift"], &[1; 15]), "refused 2 at 0\n");
+}
+
+/// A shift of a stream, with so many amounts and answers.
+fn item(amounts: u16, answers: u16, file: &[u8]) -> Vec<u8> {
+    let head = [amounts, answers, file.len() as u16].map(u16::to_le_bytes);
+    [&head.concat()[..], file].concat()
+}
+
+#[test]
+fn answers_a_stream_of_shifts() {
+    let file = [round(), bad_round()].concat();
+    let tailed = [&file[..], &[1]].concat();
+    let stream = [
+        item(70, 4, &file),
+        item(0, 0, &[]),
+        item(35, 0, &[]),
+        item(69, 4, &file),
+        item(70, 5, &file),
+        item(256, 512, &file),
+        item(70, 4, &tailed),
+        item(0, 0, &[1; 15]),
+        item(35, 2, &round()[..16]),
+    ];
+    let zeros = " 0".repeat(35);
+    let paid = " 2183300 20500 10500 0 0 516700".to_string() + &" 0".repeat(29);
+    let lines = format!(
+        "rounds 2 settled 2\nanswer 0 0 amounts{paid}\nanswer 4 1 amounts{zeros}\n\
+         rounds 0 settled 0\n\
+         rounds 0 refused 1 at 0 kept\n\
+         rounds 2 refused 1 at 0 kept\n\
+         rounds 2 refused 1 at 0 kept\n\
+         rounds 2 refused 1 at 0 kept\n\
+         rounds 2 refused 2 at 26 kept\n\
+         rounds 0 refused 2 at 0 kept\n\
+         rounds 1 settled 1\nanswer 16 1 amounts{zeros}\n"
+    );
+    assert_eq!(printed(&["stream", "--shifts"], &stream.concat()), lines);
+    assert_eq!(printed(&["stream", "--shifts"], &[]), "");
+}
+
+#[test]
+fn a_stream_that_ends_inside_a_shift() {
+    let last = item(1, 0, &[2, 0, 0]);
+    for length in 1..last.len() {
+        let stream = [&item(0, 0, &[])[..], &last[..length]].concat();
+        let output = oracle(&["stream", "--shifts"], &stream);
+        assert_eq!(output.status.code(), Some(1), "{length}");
+        assert_eq!(output.stdout, b"rounds 0 settled 0\n");
+        let error = String::from_utf8(output.stderr).unwrap();
+        assert_eq!(error, "oracle: the stream ends inside an item\n");
+    }
+}
+
+#[test]
+fn shows_a_shift_of_a_stream() {
+    let file = [&bad_round()[..], &round()[..16], &[255, 0]].concat();
+    let stream = [item(35, 2, &round()[..16]), item(70, 4, &file)].concat();
+    let shown = printed(&["show", "--stream", "--shifts", "0"], &stream);
+    let zeros = " 0".repeat(35);
+    let above = format!(
+        "# lent 35 amounts, 2 answers\n# rounds 1 settled 1\n# answer 16 1 amounts{zeros}\n"
+    );
+    let text = "table 5 100 base 2 lo 1 board 1 pocket 1\n";
+    assert_eq!(shown, above + text);
+    let shown = printed(&["show", "--stream", "--shifts", "1"], &stream);
+    let above = "# lent 70 amounts, 4 answers\n# rounds 2 refused 2 at 14 kept\ntable ";
+    assert!(shown.starts_with(above), "{shown}");
+    assert_eq!(oracle(&["pack"], shown.as_bytes()).stdout, file);
+    let beyond = oracle(&["show", "--stream", "--shifts", "2"], &stream);
+    assert_eq!(beyond.status.code(), Some(1));
+    assert_eq!(beyond.stderr, b"oracle: the stream has 2 shifts\n");
+}
+
+#[test]
+fn generates_the_same_first_shifts_for_any_count() {
+    let long = oracle(&["generate", "--shifts", "60", "9"], &[]).stdout;
+    let short = oracle(&["generate", "--shifts", "20", "9"], &[]).stdout;
+    assert!(!short.is_empty() && short.len() < long.len());
+    assert_eq!(short, long[..short.len()]);
+    let answers = printed(&["stream", "--shifts"], &long);
+    let shifts = answers.lines().filter(|line| line.starts_with("rounds"));
+    assert_eq!(shifts.count(), 60);
+    assert!(!answers.contains("changed"));
+    let mut packed = Vec::new();
+    for place in 0..20 {
+        let place = place.to_string();
+        let shown = printed(&["show", "--stream", "--shifts", &place], &long);
+        let lent = shown.lines().next().unwrap();
+        let [amounts, answers] = [2, 4].map(|word| {
+            let number = lent.split(' ').nth(word).unwrap();
+            number.parse().unwrap()
+        });
+        let file = oracle(&["pack"], shown.as_bytes()).stdout;
+        packed.extend(item(amounts, answers, &file));
+    }
+    assert_eq!(packed, short);
+}
+
+/// The files of a stream.
+fn files_of(mut stream: &[u8]) -> Vec<&[u8]> {
+    let mut files = Vec::new();
+    while let [low, high, rest @ ..] = stream {
+        let (file, after) = rest.split_at(u16::from_le_bytes([*low, *high]).into());
+        files.push(file);
+        stream = after;
+    }
+    files
+}
+
+#[test]
+fn joins_round_files() {
+    let stream = oracle(&["generate", "300", "3"], &[]).stdout;
+    let mut files = files_of(&stream);
+    files.retain(|file| {
+        let kinds: Vec<u8> = file.iter().copied().step_by(16).collect();
+        let [1, later @ ..] = kinds.as_slice() else {
+            return false;
+        };
+        file.len() % 16 == 0 && !later.contains(&1)
+    });
+    assert!((150..300).contains(&files.len()), "{}", files.len());
+    for count in [0, 1, 2, 150] {
+        let joined = oracle(&["join", &count.to_string(), "3"], &[]).stdout;
+        assert_eq!(joined, files[..count].concat(), "{count}");
+        assert_eq!(printed(&["shift"], &joined).lines().count(), count);
+    }
+}
+
 #[test]
 fn generates_the_same_head_for_any_count() {
     let long = oracle(&["generate", "50", "9"], &[]).stdout;
@@ -174,17 +323,25 @@ fn packs_and_shows() {
 fn helps() {
     let help = printed(&["--help"], &[]);
     for command in [
-        "settle", "rewrite", "stream", "generate", "tally", "pack", "show", "handmade", "hold",
+        "settle", "rewrite", "shift", "stream", "generate", "tally", "join", "pack", "show",
+        "handmade", "hold",
     ] {
         assert!(help.contains(&format!("oracle {command}")));
         assert!(printed(&[command, "--help"], &[]).contains(command));
     }
+    for command in ["stream", "generate", "tally", "show --stream"] {
+        let with_shifts = format!("oracle {command} --shifts");
+        assert!(help.contains(&with_shifts));
+        let first = command.split(' ').next().unwrap();
+        assert!(printed(&[first, "--help"], &[]).contains(&with_shifts));
+    }
     assert!(printed(&["tally", "20", "1"], &[]).starts_with("files 20"));
+    assert!(printed(&["tally", "--shifts", "20", "1"], &[]).starts_with("shifts 20"));
 }
 
 #[test]
 fn exit_statuses() {
-    let usages: [&[&str]; 13] = [
+    let usages: [&[&str]; 23] = [
         &[],
         &["deal"],
         &["deal", "--help"],
@@ -198,12 +355,23 @@ fn exit_statuses() {
         &["pack", "one", "two"],
         &["handmade", "1"],
         &["hold", "file"],
+        &["shift", "--fast"],
+        &["shift", "one", "two"],
+        &["stream", "--shifts", "file"],
+        &["generate", "--shifts", "5"],
+        &["generate", "--rounds", "5", "1"],
+        &["tally", "--shifts", "5", "x"],
+        &["show", "--stream", "--shifts"],
+        &["show", "--shifts", "1"],
+        &["join", "5"],
+        &["join", "--shifts", "5", "1"],
     ];
     for words in usages {
         assert_eq!(status(words, &[]), Some(2), "{words:?}");
     }
     assert_eq!(status(&["settle", "/nowhere/at/all"], &[]), Some(1));
     assert_eq!(status(&["rewrite", "/nowhere/at/all"], &[]), Some(1));
+    assert_eq!(status(&["shift", "/nowhere/at/all"], &[]), Some(1));
     assert_eq!(status(&["pack"], b"chair 1"), Some(1));
     assert_eq!(status(&["pack"], &[255]), Some(1));
     assert_eq!(status(&["show", "--stream", "1"], &[0, 0]), Some(1));
@@ -213,12 +381,17 @@ fn exit_statuses() {
 fn numbers_that_are_too_large() {
     let too_large = ["18446744073709551616", "99999999999999999999999999999999"];
     for large in too_large {
-        let calls: [(&str, &[&str]); 5] = [
+        let calls: [(&str, &[&str]); 10] = [
             ("N", &["generate", large, "1"]),
             ("SEED", &["generate", "1", large]),
             ("N", &["tally", large, "1"]),
             ("SEED", &["tally", "1", large]),
             ("K", &["show", "--stream", large]),
+            ("N", &["generate", "--shifts", large, "1"]),
+            ("SEED", &["generate", "--shifts", "1", large]),
+            ("N", &["tally", "--shifts", large, "1"]),
+            ("K", &["show", "--stream", "--shifts", large]),
+            ("N", &["join", large, "1"]),
         ];
         for (name, words) in calls {
             let output = oracle(words, &[]);

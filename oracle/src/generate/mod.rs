@@ -1,7 +1,9 @@
-//! Makes round files to be settled: valid finished rounds, and damaged ones.
+//! Makes round files to be settled, valid finished rounds and damaged ones, and
+//! shifts of them.
 
 pub mod draft;
 pub mod prng;
+pub mod shifts;
 pub mod stacks;
 pub mod ways;
 
