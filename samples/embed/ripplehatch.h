@@ -1,4 +1,4 @@
-/* Ripplehatch: takes a round of Cajun Stud record by record, and settles it. Link with libripplehatch.a (rt staticlib ripplehatch), on x86-64.
+/* Ripplehatch: takes a round of Cajun Stud record by record, and settles it, or a shift of rounds at once. Link with libripplehatch.a (rt staticlib ripplehatch), on x86-64.
  *
  * Every function answers every input: there is nothing that a caller has to check first. Three things are C's own to keep. No pointer may be null, neither one to
  * a list nor one to a number; of a list of 0 numbers any other pointer will do. A pointer and the number after it are a list that is really there. Nothing that is
@@ -22,6 +22,9 @@ extern "C" {
 /* How many amounts a seat has. */
 #define RIPPLEHATCH_SEAT_WAGERS 5
 
+/* How many numbers a round of a shift has in the list of answers: its refusal's number and place. */
+#define RIPPLEHATCH_ANSWER 2
+
 /* How long a record is, in bytes. */
 #define RIPPLEHATCH_RECORD 16
 
@@ -32,10 +35,11 @@ extern "C" {
 #define RIPPLEHATCH_LO_NOTHING 13
 
 /* What a function answers: 0, or the refusal's number. Where several apply, a file that is settled is checked for 1, then 2, then record by record, and within a
- * record the lowest number applies; of a held file 17 comes before all others, and 16 before 1; of cards 18 comes before 11, of a pool 19 before 20. */
+ * record the lowest number applies; a shift for 2, then 1; of a held file 17 comes before all others, and 16 before 1; of cards 18 comes before 11, of a pool 19
+ * before 20. */
 enum {
     RIPPLEHATCH_SETTLED = 0,       /* no refusal */
-    RIPPLEHATCH_LIST_LENGTH = 1,   /* the results list isn't 35 long, or the room to write into isn't as long as the held file */
+    RIPPLEHATCH_LIST_LENGTH = 1,   /* the results list isn't 35 long, a list isn't as long as the shift's rounds need, or the room to write into isn't as long as the held file */
     RIPPLEHATCH_ODD_BYTES = 2,     /* the file's length isn't a multiple of 16, or the record that is handed over isn't 16 bytes */
     RIPPLEHATCH_KIND = 3,          /* a record of this kind can't come here */
     RIPPLEHATCH_NOT_ZERO = 4,      /* a byte that must be zero isn't */
@@ -65,6 +69,16 @@ uint8_t ripplehatch_settle_file(
 /* The refused record as a part of the file: answers the byte at which it begins, and *length is how many bytes it has. These are 16 bytes; for refusal
  * 2 the odd bytes at the end; for 16, or no refusal, none, at the end. */
 size_t ripplehatch_refused_part(const uint8_t *file, size_t bytes, size_t *length);
+
+/* How many rounds a shift has: rounds joined end to end, where record 0 starts a round, and so does every later record of kind 1. Odd bytes at the end are in none. */
+size_t ripplehatch_count_rounds(const uint8_t *file, size_t bytes);
+
+/* Settles a shift, each round as ripplehatch_settle_file would settle it alone. amounts has 35 numbers for each round, answers two. Answers 0 where the shift is settled, whatever its
+ * rounds are: *rounds is how many it has, amounts holds what each seat is owed, round after round, and answers for each round 0 and 0, or its refusal's number and the place of the
+ * refused record within the round; such a round's amounts are zeros, and it spoils no other. Else answers 2 or 1, *place is its place, the count of whole records or 0, and
+ * neither list is written. What is not told is left as it was. */
+uint8_t ripplehatch_settle_shift(
+    const uint8_t *file, size_t bytes, uint64_t *amounts, size_t amounts_room, uint64_t *answers, size_t answers_room, size_t *rounds, size_t *place);
 
 /* Answers one record to a round that is held as the file of it: the accepted records, one after the other. The empty file is the fresh round.
  * Answers 0 where the record is accepted: *finished is then 1 where the round is finished, 0 where the next record is awaited, and the caller puts the 16 bytes

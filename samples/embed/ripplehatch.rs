@@ -1,4 +1,4 @@
-//! The library's functions for Rust: the eight that ripplehatch.h declares, on slices and enums.
+//! The library's functions for Rust: the ten that ripplehatch.h declares, on slices and enums.
 //!
 //! A slice goes as its pointer and its length. The slices are there, and nothing that is lent to be written overlaps anything else: that is all
 //! that the library asks of a caller, so nothing here can be used wrongly.
@@ -9,6 +9,9 @@ pub const RESULTS: usize = 35;
 
 /// How many amounts a seat has.
 pub const SEAT_WAGERS: usize = 5;
+
+/// How many numbers a round of a shift has in the list of answers: its refusal's number and place.
+pub const ANSWER: usize = 2;
 
 /// How long a record is, in bytes.
 pub const RECORD: usize = 16;
@@ -30,6 +33,17 @@ extern "C" {
         place: &mut usize,
     ) -> u8;
     fn ripplehatch_refused_part(file: *const u8, bytes: usize, length: &mut usize) -> usize;
+    fn ripplehatch_count_rounds(file: *const u8, bytes: usize) -> usize;
+    fn ripplehatch_settle_shift(
+        file: *const u8,
+        bytes: usize,
+        amounts: *mut u64,
+        amounts_room: usize,
+        answers: *mut u64,
+        answers_room: usize,
+        rounds: &mut usize,
+        place: &mut usize,
+    ) -> u8;
     fn ripplehatch_take(
         held: *const u8,
         held_bytes: usize,
@@ -98,6 +112,41 @@ pub fn refused_part(file: &[u8]) -> &[u8] {
     let mut length = 0;
     let begins = unsafe { ripplehatch_refused_part(file.as_ptr(), file.len(), &mut length) };
     &file[begins..begins + length]
+}
+
+/// How many rounds a shift has: rounds joined end to end, where record 0 starts a round, and so does every later record of kind 1. Odd bytes at the end are in none.
+pub fn count_rounds(file: &[u8]) -> usize {
+    unsafe { ripplehatch_count_rounds(file.as_ptr(), file.len()) }
+}
+
+#[derive(Clone, Copy, Debug, PartialEq, Eq)]
+pub enum ShiftAnswer {
+    /// How many rounds the shift has. Both lists hold what each of them gives.
+    Settled { rounds: usize },
+    /// 2, with the count of whole records as its place, or 1, at place 0; both lists are as they were.
+    Refused { number: u8, place: usize },
+}
+
+/// Settles a shift, each round as `settle` would settle it alone. `amounts` has `RESULTS` numbers for each round, and `answers` has `ANSWER`: 0 and 0, or the round's
+/// refusal and the place of the refused record within the round. Such a round's amounts are zeros, and it spoils no other.
+pub fn settle_shift(file: &[u8], amounts: &mut [u64], answers: &mut [u64]) -> ShiftAnswer {
+    let (mut rounds, mut place) = (0, 0);
+    let number = unsafe {
+        ripplehatch_settle_shift(
+            file.as_ptr(),
+            file.len(),
+            amounts.as_mut_ptr(),
+            amounts.len(),
+            answers.as_mut_ptr(),
+            answers.len(),
+            &mut rounds,
+            &mut place,
+        )
+    };
+    match number {
+        0 => ShiftAnswer::Settled { rounds },
+        _ => ShiftAnswer::Refused { number, place },
+    }
 }
 
 /// What an accepted record leaves: a round that awaits the next one, or a finished round.
