@@ -1,14 +1,15 @@
 //! Compares the cost of the proved settler with that of the one in oracle/, in one run, call beside call.
 //!
-//! usage: compare STREAM PASSES     the table, as lines of Markdown: each kind of work is timed so often, and the fastest pass of each settler counts
-//!        compare STREAM proved     settles the stream with the proved settler alone, for a profiler
+//! usage: compare STREAM SHIFT PASSES     the table, as lines of Markdown: each kind of work is timed so often, and the fastest pass of each settler counts
+//!        compare STREAM proved           settles the stream with the proved settler alone, for a profiler
 //!
-//! STREAM is a file that `oracle generate` wrote. Both settlers are asked the same, and have to answer alike, before anything is timed.
+//! STREAM is a file that `oracle generate` wrote, SHIFT one that `oracle join` wrote. Both settlers are asked the same, and have to answer alike, before anything is timed.
 
 mod draws;
 mod naming;
 #[path = "../../../samples/embed/ripplehatch.rs"]
 mod proved;
+mod shifts;
 mod work;
 
 use oracle::stream::next_file;
@@ -18,7 +19,7 @@ use std::process::ExitCode;
 use std::rc::Rc;
 use work::Work;
 
-const USAGE: &str = "usage: compare STREAM PASSES, or compare STREAM proved";
+const USAGE: &str = "usage: compare STREAM SHIFT PASSES, or compare STREAM proved";
 
 extern "C" {
     /// C's CPU time of the process, in millionths of a second on Linux.
@@ -45,7 +46,8 @@ fn told(each: f64) -> String {
     format!("{each:.decimals$} ns")
 }
 
-fn print_row(work: &Work, passes: usize) {
+/// Prints the work's row; the seconds of the proved settler's fastest pass.
+fn print_row(work: &Work, passes: usize) -> f64 {
     let (mut proved, mut oracle) = (f64::MAX, f64::MAX);
     for _ in 0..passes {
         proved = least(proved, seconds(&work.proved));
@@ -60,11 +62,13 @@ fn print_row(work: &Work, passes: usize) {
         each(oracle),
         proved / oracle
     );
+    proved
 }
 
-fn print_table(files: Vec<Vec<u8>>, passes: usize) -> Result<(), String> {
+fn print_table(files: Vec<Vec<u8>>, shift: Vec<u8>, passes: usize) -> Result<(), String> {
     let files = Rc::new(files);
     let (with, without) = work::offering(&files);
+    let (at_once, one_by_one) = shifts::settling(shift)?;
     let mut works = vec![
         work::settling("settling a file", Rc::clone(&files))?,
         work::settling("settling a file that offers All-Six", with)?,
@@ -81,6 +85,8 @@ fn print_table(files: Vec<Vec<u8>>, passes: usize) -> Result<(), String> {
     for work in &works {
         print_row(work, passes);
     }
+    let times = print_row(&at_once, passes) / print_row(&one_by_one, passes);
+    println!("\nA shift costs {times:.3} times its rounds' own calls.");
     Ok(())
 }
 
@@ -101,9 +107,10 @@ fn run() -> Result<(), String> {
             work::prove_all(&files_of(stream)?);
             Ok(())
         }
-        [stream, passes] => {
+        [stream, shift, passes] => {
             let passes = passes.parse().map_err(|_| USAGE)?;
-            print_table(files_of(stream)?, passes)
+            let shift = std::fs::read(shift).map_err(|error| format!("{shift}: {error}"))?;
+            print_table(files_of(stream)?, shift, passes)
         }
         _ => Err(USAGE.to_string()),
     }

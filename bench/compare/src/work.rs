@@ -214,6 +214,10 @@ fn pools() -> Vec<Vec<u64>> {
 fn pools_of_seven() -> Vec<Vec<u64>> {
     let mut draws = Draws::from(3);
     (0..100_000)
-        .map(|_| (0..7).map(|_| 5_000 + draws.below(495_001) as u64).collect())
+        .map(|_| {
+            (0..7)
+                .map(|_| 5_000 + draws.below(495_001) as u64)
+                .collect()
+        })
         .collect()
 }
