@@ -65,6 +65,15 @@ module _ (m : ℕ) (give : List ℕ → List ℕ) (wide : (f : List ℕ) → len
       → take m (drop (m * k) (inTurn give l)) ≡ take m (drop (m * k) (inTurn give l′))
   spoils-none l l′ k h h′ e = own-part l k h ∙ ap give e ∙ sym (own-part l′ k h′)
 
+-- So the lists that a settled shift fills: round k has in each what its own call gives.
+pub own-calls : (l amounts answers : List ℕ) (fit : Bool) → shiftNumber (shiftAnswer l fit) ≡ 0 → (k : ℕ) → k < roundCount l
+    → (take resultsLong (drop (resultsLong * k) (shiftList roundAmounts l fit amounts)) ≡ roundAmounts (getD (shiftRounds l) k []))
+    × (take answerLong (drop (answerLong * k) (shiftList roundAnswer l fit answers)) ≡ roundAnswer (getD (shiftRounds l) k []))
+own-calls l amounts answers fit z k h = (
+  rw (settled-list l fit z roundAmounts amounts) (own-part resultsLong roundAmounts amounts-long l k h),
+  rw (settled-list l fit z roundAnswer answers) (own-part answerLong roundAnswer answer-long l k h),
+)
+
 -- A round of a settled shift whose number among the answers is 0: it is bytes, its own call answers 0, and what that writes into a list of zeros is its part of the amounts.
 pub settled-round : (l : List ℕ) (fit : Bool) → shiftNumber (shiftAnswer l fit) ≡ 0 → (amounts answers : List ℕ) → areBytes l ≡ true
     → (k : ℕ) → k < roundCount l → getD (shiftList roundAnswer l fit answers) (answerLong * k) 0 ≡ 0 →
@@ -75,16 +84,12 @@ pub settled-round : (l : List ℕ) (fit : Bool) → shiftNumber (shiftAnswer l f
 unfolding roundAmounts roundAnswer
 settled-round l fit z amounts answers bytes k h none =
     let f = getD (shiftRounds l) k [] in
-    let told = inTurn roundAnswer l in
-    let here : getD told (answerLong * k) 0 ≡ getD (take answerLong (drop (answerLong * k) told)) 0 0 =
-    sym (getD-take answerLong (drop (answerLong * k) told) 0 0 (omega arith) ∙ getD-drop (answerLong * k) told 0 0 ∙ ap (λ (i : ℕ). getD told i 0) (omega arith)) in
-    let number : fileNumber (fileAnswer f resultsLong) ≡ 0 =
-    ap (λ (x : List ℕ). getD x 0 0) (sym (own-part answerLong roundAnswer answer-long l k h))
-    ∙ sym here ∙ ap (λ (x : List ℕ). getD x (answerLong * k) 0) (sym (settled-list l fit z roundAnswer answers)) ∙ none in (
-      round-bytes l (settled-whole l fit z) bytes k h,
-      rw (length-replicate {A = ℕ} resultsLong 0) number,
-      rw (settled-list l fit z roundAmounts amounts) (own-part resultsLong roundAmounts amounts-long l k h),
-    )
+    let told = shiftList roundAnswer l fit answers in
+    let own = own-calls l amounts answers fit z k h in
+    let here : getD (take answerLong (drop (answerLong * k) told)) 0 0 ≡ getD told (answerLong * k) 0 =
+    getD-take answerLong (drop (answerLong * k) told) 0 0 (omega arith) ∙ getD-drop (answerLong * k) told 0 0 ∙ ap (λ (i : ℕ). getD told i 0) (omega arith) in
+    let number : fileNumber (fileAnswer f resultsLong) ≡ 0 = ap (λ (x : List ℕ). getD x 0 0) (sym (own .1)) ∙ here ∙ none in
+    (round-bytes l (settled-whole l fit z) bytes k h, rw (length-replicate {A = ℕ} resultsLong 0) number, own .0)
 
 -- ---- joined
 

@@ -1,3 +1,4 @@
+-- `shift::run` meets its contract. The length of its room is said by a law: counting it out would take as many steps.
 use Prim.Native.Nat.{ℕ}
 use mathlib.Core.Path.{sym}
 use lib.ListN.{length-replicate}
