@@ -1,31 +1,25 @@
 -- Files that are joined are cut where they were joined.
 -- Assumes nothing.
-use Prim.Native.Nat.{ℕ, zero, suc, _+_, _*_, _/_, _%_, _<_}
+use Prim.Native.Nat.{ℕ, zero, suc, _%_, _<_}
 use mathlib.Core.Path.{_≡_, refl, ap, sym, _∙_}
 use mathlib.Core.Bool.{Bool, true, false}
 use mathlib.Core.List.{List, [], _∷_, _++_, append-assoc, append-nil}
 use native.Mathlib.Omega.{arith}
 use lib.Dec.{leb, ltb}
-use lib.ListN.{length, getD, take, drop, length-append}
-use lib.Seq.{take-all, take-at, drop-at, take-add, getD-take}
+use lib.ListN.{length, getD, take, drop}
+use lib.Seq.{getD-take}
 use borrow.Author.Tests.{leb-true, leb-false}
 use Rattle.counting.specs.Choose.{if_then_else_}
 use Rattle.counting.proofs.Tests.{clash}
 use Rattle.counting.proofs.Lists.{everyOf-left, everyOf-right}
 use Rattle.records.specs.Bytes.{areBytes}
-use Rattle.reading.specs.File.{cut, fileRecords}
+use Rattle.reading.specs.File.{fileRecords}
 use Rattle.reading.specs.Joined.{joined}
-use Rattle.reading.proofs.Records.{records-cons, records-end, records-split}
+use Rattle.reading.proofs.Records.{records-cons, records-end, records-append, joined-records}
 use Rattle.cutting.specs.Rounds.{startsRound, roundsFrom, roundsOf, shiftRounds, roundCount}
 use Rattle.apart.specs.Apart.{OneRound, Rounds}
 
 -- ---- two shifts
-
-records-append : (l m : List ℕ) → length l % 16 ≡ 0 → fileRecords (l ++ m) ≡ fileRecords l ++ fileRecords m
-records-append l m even =
-    let n = length l / 16 in
-    let whole : length l ≡ 16 * n = omega arith in
-    records-split n (l ++ m) (omega (arith, length-append l m)) ∙ rw (take-at l m (16 * n) whole, drop-at l m (16 * n) whole)
 
 -- behind the round that is open
 from-append : (l : List ℕ) (xs : List (List ℕ)) (b : List ℕ) (bs : List (List ℕ)) → startsRound b ≡ true
@@ -84,17 +78,6 @@ joined-of : (bs : List (List ℕ)) → joined (roundsOf bs) ≡ joined bs
 unfolding roundsOf joined
 joined-of [] = refl
 joined-of (b ∷ bs) = joined-from b bs
-
-joined-cut : (n : ℕ) (l : List ℕ) → joined (cut n l) ≡ take (16 * n) l
-unfolding cut joined
-joined-cut zero l = refl
-joined-cut (suc n) l =
-    let e : 16 * suc n ≡ 16 + 16 * n = omega arith in
-    ap (λ (x : List ℕ). take 16 l ++ x) (joined-cut n (drop 16 l)) ∙ rw (e, take-add 16 (16 * n) l)
-
-pub joined-records : (l : List ℕ) → length l % 16 ≡ 0 → joined (fileRecords l) ≡ l
-unfolding fileRecords
-joined-records l e = joined-cut (length l / 16) l ∙ take-all (16 * (length l / 16)) l (omega arith)
 
 -- the rounds, joined again, are the file
 pub nothing-lost : (l : List ℕ) → length l % 16 ≡ 0 → joined (shiftRounds l) ≡ l

@@ -1,9 +1,9 @@
 -- Each round of a shift is settled apart from the others: over any list that takes m numbers a round.
 -- Assumes nothing.
 use Prim.Native.Nat.{ℕ, zero, suc, _+_, _*_, _%_, _<_}
-use mathlib.Core.Path.{_≡_, refl, ap, sym, _∙_}
+use mathlib.Core.Path.{_≡_, ap, sym, _∙_}
 use mathlib.Core.Bool.{Bool, true, false}
-use mathlib.Core.List.{List, [], _∷_, _++_, map, append-nil}
+use mathlib.Core.List.{List, [], _∷_, _++_, map, append-nil, map-append}
 use native.Mathlib.Nat.{mul-zero}
 use native.Mathlib.Numerals.{add-one}
 use native.Mathlib.Omega.{arith}
@@ -92,10 +92,6 @@ settled-round l fit z amounts answers bytes k h none =
     (round-bytes l (settled-whole l fit z) bytes k h, rw (length-replicate {A = ℕ} resultsLong 0) number, own .0)
 
 -- ---- joined
-
-map-append : {A B : Type 0} (f : A → B) (xs ys : List A) → map f (xs ++ ys) ≡ map f xs ++ map f ys
-map-append f [] ys = refl
-map-append f (x ∷ xs) ys = ap (λ zs. f x ∷ zs) (map-append f xs ys)
 
 -- Two shifts joined, the second beginning with a table record, give the joined lists.
 pub joined-lists : (give : List ℕ → List ℕ) (l m : List ℕ) → length l % 16 ≡ 0 → startsRound m ≡ true → inTurn give (l ++ m) ≡ inTurn give l ++ inTurn give m

@@ -1,13 +1,13 @@
 -- Which files are one round: those of which no record but the first is of kind 1, and so every accepted file, and every round of a shift.
 -- Assumes nothing.
-use Prim.Native.Nat.{ℕ, zero, suc, _*_, _/_, _%_, _≤_, _<_}
+use Prim.Native.Nat.{ℕ, zero, suc, _%_, _≤_, _<_}
 use mathlib.Core.Path.{_≡_, refl, ap, sym, _∙_}
 use mathlib.Core.Bool.{Bool, true, false}
 use mathlib.Core.List.{List, [], _∷_, _++_, append-assoc, append-nil}
 use native.Mathlib.Omega.{arith}
 use lib.Dec.{eqb}
 use lib.ListN.{length, getD, take, drop, length-append, length-drop}
-use lib.Seq.{drop-append-le, length-take-le}
+use lib.Seq.{drop-append-le}
 use Rattle.counting.specs.Choose.{if_then_else_}
 use Rattle.counting.specs.Count.{someBelow}
 use Rattle.counting.proofs.Tests.{clash}
@@ -22,13 +22,12 @@ use Rattle.led.specs.Led.{Leads}
 use Rattle.led.specs.Led.Leads.{done, then as accepts}
 use Rattle.led.proofs.Took.{Took, took}
 use Rattle.led.proofs.Took.Took.{table, seat, part, choice}
-use Rattle.reading.specs.File.{cut, fileRecords, readFile}
+use Rattle.reading.specs.File.{fileRecords, readFile}
 use Rattle.reading.specs.Joined.{joined, Whole}
-use Rattle.reading.proofs.Records.{records-cons, records-end, records-behind}
+use Rattle.reading.proofs.Records.{records-cons, records-end, records-behind, joined-records, records-whole}
 use Rattle.reading.proofs.Readings.{read-leads}
 use Rattle.cutting.specs.Rounds.{startsRound, roundsFrom, roundsOf, shiftRounds, roundCount}
 use Rattle.apart.specs.Apart.{StartNone, OneRound}
-use Rattle.apart.proofs.Joins.{joined-records}
 
 gathered : (l : List ℕ) (bs : List (List ℕ)) → StartNone bs → roundsFrom l bs ≡ (l ++ joined bs) ∷ []
 unfolding StartNone roundsFrom joined
@@ -106,11 +105,6 @@ from-once l (b ∷ bs) even long o w k h =
     go true e (suc j) h next more = next j (omega arith)
     go false e k h next more = more e k h
 
-cut-whole : (n : ℕ) (l : List ℕ) → 16 * n ≤ length l → Whole (cut n l)
-unfolding cut Whole
-cut-whole zero l h = tt
-cut-whole (suc n) l h = (length-take-le 16 l (omega arith), cut-whole n (drop 16 l) (rw length-drop (omega arith)))
-
 of-once : (bs : List (List ℕ)) → Whole bs → (k : ℕ) → k < length (roundsOf bs) → Once (getD (roundsOf bs) k [])
 unfolding roundsOf Whole
 of-once [] w k h = absurd (omega arith)
@@ -118,5 +112,5 @@ of-once (b ∷ bs) w k h = from-once b bs (omega (arith, w .0)) (omega (arith, w
 
 -- So a table record is never refused by 3 in a shift.
 pub starts-once : (l : List ℕ) (k : ℕ) → k < roundCount l → StartNone (fileRecords (drop 16 (getD (shiftRounds l) k [])))
-unfolding shiftRounds fileRecords
-starts-once l = of-once (cut (length l / 16) l) (cut-whole (length l / 16) l (omega arith))
+unfolding shiftRounds
+starts-once l = of-once (fileRecords l) (records-whole l)

@@ -4,7 +4,7 @@ use Prim.Native.Nat.{ℕ}
 use mathlib.Core.Bool.{Bool}
 use mathlib.Core.List.{List, [], _∷_, _++_}
 use lib.Dec.{eqb}
-use lib.ListN.{length}
+use lib.ListN.{length, getD}
 use Rattle.counting.specs.Choose.{if_then_else_}
 use Rattle.records.specs.Bytes.{byte}
 use Rattle.reading.specs.File.{fileRecords}
@@ -13,7 +13,7 @@ use Rattle.reading.specs.File.{fileRecords}
 abbrev pub startsRound : List ℕ → Bool
 startsRound b = eqb (byte b 0) 1
 
--- Record 0 starts a round, and so does every later record of kind 1. (l: the records of the round that is open, before these.)
+-- Record 0 starts a round, and so does every later record of kind 1. (l: the bytes of the round that is open, before these records.)
 unfoldable pub roundsFrom : List ℕ → List (List ℕ) → List (List ℕ)
 roundsFrom l [] = l ∷ []
 roundsFrom l (b ∷ bs) = if startsRound b then l ∷ roundsFrom b bs else roundsFrom (l ++ b) bs
@@ -32,9 +32,5 @@ abbrev pub roundCount : List ℕ → ℕ
 roundCount l = length (shiftRounds l)
 
 -- the first of them, and no bytes where there is none
-abbrev pub firstOf : List (List ℕ) → List ℕ
-firstOf [] = []
-firstOf (r ∷ rs) = r
-
 unfoldable pub firstRound : List ℕ → List ℕ
-firstRound l = firstOf (shiftRounds l)
+firstRound l = getD (shiftRounds l) 0 []

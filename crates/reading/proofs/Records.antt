@@ -84,10 +84,36 @@ records-split (suc n) l h =
     records-cons l (omega arith)
     ∙ rw (e, take-add 16 (16 * n) l, ← (drop-drop (16 * n) 16 l), first) (ap (λ (m : List (List ℕ)). take 16 l ∷ m) (records-split n (drop 16 l) k))
 
--- a record behind whole ones
-pub records-behind : (l b : List ℕ) → length l % 16 ≡ 0 → length b ≡ 16 → fileRecords (l ++ b) ≡ fileRecords l ++ (b ∷ [])
-records-behind l b even long =
+-- a file behind whole records, and so a record
+pub records-append : (l m : List ℕ) → length l % 16 ≡ 0 → fileRecords (l ++ m) ≡ fileRecords l ++ fileRecords m
+records-append l m even =
     let n = length l / 16 in
     let whole : length l ≡ 16 * n = omega arith in
+    records-split n (l ++ m) (omega (arith, length-append l m)) ∙ rw (take-at l m (16 * n) whole, drop-at l m (16 * n) whole)
+
+pub records-behind : (l b : List ℕ) → length l % 16 ≡ 0 → length b ≡ 16 → fileRecords (l ++ b) ≡ fileRecords l ++ (b ∷ [])
+records-behind l b even long =
     let one : fileRecords b ≡ b ∷ [] = rw (append-nil b, records-end [] (omega arith)) at (records-app b [] long) in
-    records-split n (l ++ b) (omega (arith, length-append l b)) ∙ rw (take-at l b (16 * n) whole, drop-at l b (16 * n) whole, one)
+    records-append l b even ∙ rw one
+
+-- ---- put together again
+
+joined-cut : (n : ℕ) (l : List ℕ) → joined (cut n l) ≡ take (16 * n) l
+unfolding cut joined
+joined-cut zero l = refl
+joined-cut (suc n) l =
+    let e : 16 * suc n ≡ 16 + 16 * n = omega arith in
+    ap (λ (x : List ℕ). take 16 l ++ x) (joined-cut n (drop 16 l)) ∙ rw (e, take-add 16 (16 * n) l)
+
+pub joined-records : (l : List ℕ) → length l % 16 ≡ 0 → joined (fileRecords l) ≡ l
+unfolding fileRecords
+joined-records l e = joined-cut (length l / 16) l ∙ take-all (16 * (length l / 16)) l (omega arith)
+
+cut-whole : (n : ℕ) (l : List ℕ) → 16 * n ≤ length l → Whole (cut n l)
+unfolding cut Whole
+cut-whole zero l h = tt
+cut-whole (suc n) l h = (length-take-le 16 l (omega arith), cut-whole n (drop 16 l) (rw length-drop (omega arith)))
+
+pub records-whole : (l : List ℕ) → Whole (fileRecords l)
+unfolding fileRecords
+records-whole l = cut-whole (length l / 16) l (omega arith)

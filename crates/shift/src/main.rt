@@ -45,6 +45,8 @@ const AMOUNTS: usize = RESULTS * ROUNDS;
 
 const ANSWERS: usize = ANSWER * ROUNDS;
 
+const TOO_LONG: [u8; 43] = *b"holds at most 4096 rounds and 2162688 bytes";
+
 fn put_refused(line: &mut [u8], number: u64, place: u64) -> usize {
     let numbered = put_named(line, 0, b"refused ", number);
     put_line(line, numbered, b" at", &[place])
@@ -110,7 +112,7 @@ fn print_refused(number: u8, place: usize) -> Outcome {
 }
 
 fn too_many() -> Outcome {
-    tell(&NAME, b"settles at most 4096 rounds");
+    tell(&NAME, &TOO_LONG);
     Outcome::Fault
 }
 
@@ -138,7 +140,7 @@ fn settled_in_rooms(file: &[u8]) -> Outcome {
 }
 
 fn read_and_settled(room: &mut [u8]) -> Outcome {
-    let got = read_all(&NAME, room, b"reads at most 2162688 bytes");
+    let got = read_all(&NAME, room, &TOO_LONG);
     if got.failed {
         return Outcome::Fault;
     }
