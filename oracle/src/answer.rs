@@ -4,7 +4,7 @@ use std::io::{self, Write};
 
 use crate::held::Step;
 use crate::held_file;
-use crate::reading::{read, Finished, Refusal, RECORD};
+use crate::reading::{read, Refusal, RECORD};
 use crate::settle::{first_result, part_of_answer, settle, settle_round};
 use crate::settle::{Answer, Paid, RESULTS_A_SEAT};
 use crate::shift::{check_length, rounds};
@@ -13,9 +13,9 @@ use crate::shift::{check_length, rounds};
 /// and [five] amounts in cents", All-Six last; "then the pool in dollars, full
 /// and as paid".
 pub fn lines(file: &[u8]) -> String {
-    let round = match finished_or_line(file) {
+    let round = match read(file) {
         Ok(round) => round,
-        Err(line) => return line,
+        Err(Refusal { number, place }) => return format!("refused {number} at {place}\n"),
     };
     let mut text = Vec::new();
     let settled = settle_round(&round);
@@ -29,29 +29,6 @@ pub fn lines(file: &[u8]) -> String {
     push_numbers(&mut text, &[settled.full, settled.paid]);
     text.push(b'\n');
     text.into_iter().map(char::from).collect()
-}
-
-/// What is printed for the cards lit of a file: each playing seat's number and
-/// five marks.
-pub fn lit_lines(file: &[u8]) -> String {
-    let round = match finished_or_line(file) {
-        Ok(round) => round,
-        Err(line) => return line,
-    };
-    let mut text = Vec::new();
-    let settled = settle_round(&round);
-    for seat in &round.seats {
-        let first = first_result(seat);
-        push_number(&mut text, u64::from(seat.number));
-        push_marks(&mut text, &settled.marks[first..first + RESULTS_A_SEAT]);
-        text.push(b'\n');
-    }
-    text.into_iter().map(char::from).collect()
-}
-
-/// The finished round of a file, or the line that a refused one prints alone.
-pub(crate) fn finished_or_line(file: &[u8]) -> Result<Finished, String> {
-    read(file).map_err(|Refusal { number, place }| format!("refused {number} at {place}\n"))
 }
 
 /// Appends the one line that a file of a stream is answered with.
@@ -141,14 +118,12 @@ pub(crate) fn push_step(out: &mut Vec<u8>, step: &Step) {
     }
 }
 
-/// Appends `paid`, the 35 amounts, `pool`, the pool, `lit` and the 35 marks.
+/// Appends `paid`, the 35 amounts, `pool` and the pool.
 pub(crate) fn push_paid(out: &mut Vec<u8>, settled: &Paid) {
     out.extend_from_slice(b"paid");
     push_numbers(out, &settled.amounts);
     out.extend_from_slice(b" pool");
     push_numbers(out, &[settled.full, settled.paid]);
-    out.extend_from_slice(b" lit");
-    push_marks(out, &settled.marks);
 }
 
 /// Appends `refused` and the number.
@@ -180,14 +155,6 @@ pub(crate) fn push_numbers(out: &mut Vec<u8>, numbers: &[u64]) {
     for &number in numbers {
         out.push(b' ');
         push_number(out, number);
-    }
-}
-
-/// Appends each mark with a space before it.
-pub(crate) fn push_marks(out: &mut Vec<u8>, marks: &[u8]) {
-    for &mark in marks {
-        out.push(b' ');
-        push_number(out, u64::from(mark));
     }
 }
 

@@ -141,8 +141,8 @@ impl Held {
         }
     }
 
-    /// "Settling a held round: 17, 1, 16." The lists of results and of marks are
-    /// taken to be 35 long, so 1 doesn't arise.
+    /// "Settling a held round: 17, 1, 16." The results list is taken to be 35
+    /// long, so 1 doesn't arise.
     pub fn settle(&self) -> Result<Paid, u8> {
         let round = self.round().ok_or(NOT_HELD)?;
         let finished = round.finish().ok_or(NOT_FINISHED)?;

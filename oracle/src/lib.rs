@@ -1,8 +1,7 @@
-//! A settler for rounds of Cajun Stud and for shifts of them, with the cards
-//! that are lit, and a writer of round files, written from document 01, requests
-//! a to d and f of document 02 and their readings as a plain rule sheet, with a
-//! generator of round files and shifts: it exists to be compared with another
-//! settler.
+//! A settler for rounds of Cajun Stud and for shifts of them, and a writer of
+//! round files, written from document 01, requests a to d of document 02 and
+//! their readings as a plain rule sheet, with a generator of round files and
+//! shifts: it exists to be compared with another settler.
 
 pub mod answer;
 pub mod cards;
@@ -11,16 +10,12 @@ pub mod generate;
 pub mod handmade;
 pub mod held;
 pub mod held_file;
-pub mod lit;
-pub mod lit_tally;
-pub mod marks;
 pub mod names;
 pub mod paytables;
 pub mod pool;
 pub mod reading;
 pub mod records;
 pub mod settle;
-pub mod sheet;
 pub mod shift;
 pub mod shift_stream;
 pub mod shift_tally;

@@ -7,15 +7,12 @@ use std::process::ExitCode;
 
 use oracle::generate::shifts;
 use oracle::reading::Refusal;
-use oracle::{answer, generate, handmade, sheet, shift_stream, shift_tally, stream, tally};
-use oracle::{text, writing};
+use oracle::{answer, generate, handmade, shift_stream, shift_tally, stream, tally, text, writing};
 
 const HELP: &str = "\
 oracle: settles rounds of Cajun Stud, and makes rounds to be settled
 
   oracle settle [FILE]             settle one round file
-  oracle lit [FILE]                the marks of the cards lit in one round file
-  oracle sheet [FILE]              one round file as the dealer sees it
   oracle rewrite [FILE]            a round file to the file of its held round
   oracle shift [FILE]              settle a shift file, one line a round
   oracle stream                    settle a stream of round files, one line each
@@ -46,34 +43,6 @@ base, Board, Pocket, Lo Ball and All-Six in cents), then 'pool F P' in dollars,
 full and as paid; or 'refused N at R' alone.
 ";
 
-const LIT_HELP: &str = "\
-oracle lit [FILE]
-
-Reads a round file and prints a line for each playing seat: its number, then the
-marks of base, Board, Pocket, Lo Ball and All-Six. A mark is the sum of 1, 2, 4
-for the community cards lit, 8 for the All-Six card, 16 and 32 for the seat's
-two; 0 where no wager was placed or the base was folded. A refused file prints
-'refused N at R' alone.
-";
-
-const SHEET_HELP: &str = "\
-oracle sheet [FILE]
-
-Reads a round file and prints the round as the dealer sees it: the community
-cards, and the All-Six card where the table offers All-Six; then for each
-playing seat its two cards and its base wager, on a second line its Board and
-Pocket wagers and on a third its Lo Ball and All-Six wagers, as far as they are
-placed:
-  community Td Jd Qd  all-six 9d
-  seat 7 9h 9c  base TdJdQd[9h9c] sixes to tens 50.00
-    board [TdJdQd] straight flush 41.00  pocket [9h9c] other pair 10.00
-    lo TdJdQd9h9c nothing 0.00  six TdJdQd[9d9h9c] three of a kind 18.00
-A wager has the cards that it is judged on, in the order community, All-Six
-card, the seat's two, with the lit ones in brackets; then its name, 'folded' for
-the base of a seat that has folded; then its amount in dollars. No line is
-longer than 80 columns. A refused file prints 'refused N at R' alone.
-";
-
 const REWRITE_HELP: &str = "\
 oracle rewrite [FILE]
 
@@ -88,8 +57,8 @@ oracle shift [FILE]
 
 Reads a shift file, rounds joined end to end: record 0 starts a round, and so
 does every later record of kind 1. Prints a line a round, R being the place
-within the round, and M1 to M35 the marks of the cards lit:
-  paid A1 ... A35 pool F P lit M1 ... M35
+within the round:
+  paid A1 ... A35 pool F P
   refused N at R
 A shift that isn't of whole records prints 'refused 2 at R' alone, R being the
 count of whole records; the empty one prints nothing.
@@ -101,28 +70,26 @@ oracle stream --shifts
 
 Standard input is a run of round files, each preceded by its length as two
 bytes, low byte first. Prints one line a file:
-  paid A1 ... A35 pool F P lit M1 ... M35 part B take A written S RECORDS
+  paid A1 ... A35 pool F P part B take A written S RECORDS
   refused N at R part B HEX take A written S RECORDS
-M1 to M35 are the marks of the cards lit, as 'oracle lit' has them. B is the
-byte at which the refused part begins, HEX the part (nothing follows B where it
-is empty). A is what a round held as the file of it answers to a record: the
-record is the last of the file, or the odd bytes at its end, and the held file
-is what stands before it. A is 'next', 'finished' or 'refused N'.
+B is the byte at which the refused part begins, HEX the part (nothing follows B
+where it is empty). A is what a round held as the file of it answers to a
+record: the record is the last of the file, or the odd bytes at its end, and the
+held file is what stands before it. A is 'next', 'finished' or 'refused N'.
 The whole file is held too, and written: RECORDS are those of the written file
 from record S on, from 0, each in hex without the zero bytes at its end; the S
 before them are the same as those of the file. 'written refused 17' or
 'written refused 16' stands where it isn't written.
 
 With --shifts standard input is a run of shifts, each preceded by how many
-amounts, how many marks and how many answers are lent and the length of its
-file, as two bytes each, low byte first. Prints for each, with K the count of
-its rounds:
+amounts are lent, how many answers are lent and the length of its file, as two
+bytes each, low byte first. Prints for each, with K the count of its rounds:
   rounds K settled K
   rounds K refused N at R kept
-'kept' says that none of the three lists was changed, 'changed' that one was.
-After the line of a settled shift comes a line a round, from the three lists:
-its refusal number and place, 0 0 when settled, its amounts and its marks.
-  answer N R amounts A1 ... A35 lit M1 ... M35
+'kept' says that neither list was changed, 'changed' that one was. After the
+line of a settled shift comes a line a round, from the two lists: its refusal
+number and place, 0 0 when settled, and its amounts.
+  answer N R amounts A1 ... A35
 ";
 
 const GENERATE_HELP: &str = "\
@@ -133,8 +100,8 @@ Writes a stream of N round files, valid and damaged, the same for the same SEED
 everywhere. The first M files do not depend on N.
 With --shifts it is a stream of N shifts, as 'oracle stream --shifts' reads it:
 round files, valid and damaged, joined end to end, with lists of right and wrong
-lengths. A shift has at most 4096 amounts, 4096 marks, 256 answers and 65535
-bytes. The first M shifts do not depend on N.
+lengths. A shift has at most 4096 amounts, 256 answers and 65535 bytes. The
+first M shifts do not depend on N.
 ";
 
 const TALLY_HELP: &str = "\
@@ -181,7 +148,7 @@ Reads a round or shift file, or with --stream the K-th file (from 0) of a stream
 on standard input, and prints the text that 'oracle pack' packs to the same
 bytes. With --stream the file's answer line stands above it as a comment.
 With --stream --shifts it is the K-th shift of a stream of shifts; how many
-amounts, marks and answers are lent and its answer lines stand above it.
+amounts and answers are lent and its answer lines stand above it.
 ";
 
 const HANDMADE_HELP: &str = "\
@@ -206,12 +173,12 @@ oracle hold
 
 Standard input is a stream as 'oracle handmade' writes it. Prints one line an
 item: what the held round answers to the record, then what settling it is
-answered with lists of 35 results and 35 marks, then the records of the file
-that it is written as, each in hex without the zero bytes at its end.
+answered with a results list of 35, then the records of the file that it is
+written as, each in hex without the zero bytes at its end.
   take next settle refused 16 write RECORDS
   take next settle refused 16 write refused 16
   take refused 17 settle refused 17 write refused 17
-  take refused 3 settle paid A1 ... A35 pool F P lit M1 ... M35 write RECORDS
+  take refused 3 settle paid A1 ... A35 pool F P write RECORDS
 'take finished' stands where the record finishes the round.
 ";
 
@@ -260,8 +227,6 @@ fn run(words: &[&str]) -> Result<(), Failure> {
         ["--help" | "-h" | "help"] => print(HELP.as_bytes()),
         [command, "--help" | "-h"] => print(help_of(command)?.as_bytes()),
         ["settle", file @ ..] => print(answer::lines(&input(file)?).as_bytes()),
-        ["lit", file @ ..] => print(answer::lit_lines(&input(file)?).as_bytes()),
-        ["sheet", file @ ..] => print(sheet::lines(&input(file)?).as_bytes()),
         ["rewrite", file @ ..] => rewrite(file),
         ["shift", file @ ..] => answer_shift(file),
         ["stream"] => answer_stream(),
@@ -294,8 +259,6 @@ fn run(words: &[&str]) -> Result<(), Failure> {
 fn help_of(command: &str) -> Result<&'static str, Failure> {
     match command {
         "settle" => Ok(SETTLE_HELP),
-        "lit" => Ok(LIT_HELP),
-        "sheet" => Ok(SHEET_HELP),
         "rewrite" => Ok(REWRITE_HELP),
         "shift" => Ok(SHIFT_HELP),
         "stream" => Ok(STREAM_HELP),

@@ -99,7 +99,7 @@ pub fn name_six(cards: &[u8]) -> Result<SixName, u8> {
 }
 
 /// "Hands: 18, then 11."
-pub(crate) fn checked<const N: usize>(cards: &[u8]) -> Result<[u8; N], u8> {
+fn checked<const N: usize>(cards: &[u8]) -> Result<[u8; N], u8> {
     let hand: [u8; N] = cards.try_into().map_err(|_| 18)?;
     for (place, &card) in hand.iter().enumerate() {
         if !is_card(card) || hand[..place].contains(&card) {

@@ -1,8 +1,6 @@
-//! Settling: from a round file to the amounts handed back and the marks of the
-//! cards lit, or the refusal.
+//! Settling: from a round file to the amounts handed back, or the refusal.
 
 use crate::deal::Deal;
-use crate::marks;
 use crate::names::{board_name, five_name, lo_ball_name, pocket_name, six_name};
 use crate::names::{BoardName, FiveName, LoBallName, PocketName, SixName};
 use crate::paytables;
@@ -19,9 +17,6 @@ pub struct Paid {
     /// Cents, "35 numbers, five a seat", seats 1 to 7, "in the order base,
     /// Board, Pocket, Lo Ball", "All-Six last".
     pub amounts: [u64; RESULTS],
-    /// The cards lit, "at the same places": "1, 2, 4 for the community cards
-    /// lit, 8 for the All-Six card, 16 and 32 for the seat's two".
-    pub marks: [u8; RESULTS],
     /// The pool in dollars, full and as paid.
     pub full: u64,
     pub paid: u64,
@@ -32,17 +27,6 @@ pub struct Paid {
 pub enum Answer {
     Paid(Paid),
     Refused { number: u8, place: usize },
-}
-
-/// The cards on which the wagers of one seat are judged, each hand "in the order
-/// community, All-Six card, seat's two".
-#[derive(Clone, Copy, Debug)]
-pub(crate) struct Hands {
-    pub five: [u8; 5],
-    pub board: [u8; 3],
-    pub pocket: [u8; 2],
-    /// None where All-Six isn't offered.
-    pub six: Option<[u8; 6]>,
 }
 
 /// The names on which the wagers of one seat are settled.
@@ -85,11 +69,9 @@ pub(crate) fn part_of_answer<'a>(file: &'a [u8], answer: &Answer) -> (usize, &'a
 pub(crate) fn settle_round(round: &Finished) -> Paid {
     let table = &round.table;
     let mut amounts = [0; RESULTS];
-    let mut marks = [0; RESULTS];
     let mut wins = [0; MOST_SEATS];
     for (order, seat) in round.seats.iter().enumerate() {
-        let hands = hands_of_seat(round, order);
-        let names = names_of_hands(&hands);
+        let names = names_of_seat(round, order);
         let pays = paytables::base(table.base, names.five);
         let first = first_result(seat);
         match pays.pooled_odds() {
@@ -106,12 +88,10 @@ pub(crate) fn settle_round(round: &Finished) -> Paid {
         amounts[first + 4] = names.six.map_or(0, |six| {
             paytables::all_six(table.all_six, six).handed_back(u64::from(seat.all_six))
         });
-        marks[first..first + RESULTS_A_SEAT].copy_from_slice(&marks::of_seat(seat, &hands));
     }
     let paid = pay_pool(round, &wins, &mut amounts);
     Paid {
         amounts,
-        marks,
         full: wins.iter().sum(),
         paid,
     }
@@ -135,33 +115,29 @@ fn pay_pool(round: &Finished, wins: &[u64], amounts: &mut [u64]) -> u64 {
     shares.iter().sum()
 }
 
-/// The names for the seat that is the so-manyth, from 0, of those playing.
+/// The names for the seat that is the so-manyth, from 0, of those playing. The
+/// All-Six hand is "community, All-Six card, seat's two".
 pub(crate) fn names_of_seat(round: &Finished, order: usize) -> SeatNames {
-    names_of_hands(&hands_of_seat(round, order))
-}
-
-pub(crate) fn names_of_hands(hands: &Hands) -> SeatNames {
-    SeatNames {
-        five: five_name(hands.five),
-        board: board_name(hands.board),
-        pocket: pocket_name(hands.pocket),
-        lo_ball: lo_ball_name(hands.five),
-        six: hands.six.map(six_name),
-    }
-}
-
-/// The hands of the seat that is the so-manyth, from 0, of those playing.
-pub(crate) fn hands_of_seat(round: &Finished, order: usize) -> Hands {
     let deal = Deal::new(round.seats.len(), round.table.offers_all_six());
-    let board @ [a, b, c] = deal.community().map(|place| round.deck[place]);
-    let pocket @ [e, f] = deal.pocket(order).map(|place| round.deck[place]);
-    let all_six = deal.all_six().map(|place| round.deck[place]);
-    Hands {
-        five: [a, b, c, e, f],
-        board,
-        pocket,
-        six: all_six.map(|d| [a, b, c, d, e, f]),
+    let pocket = deal.pocket(order).map(|place| round.deck[place]);
+    let board = deal.community().map(|place| round.deck[place]);
+    let five = [pocket[0], pocket[1], board[0], board[1], board[2]];
+    SeatNames {
+        five: five_name(five),
+        board: board_name(board),
+        pocket: pocket_name(pocket),
+        lo_ball: lo_ball_name(five),
+        six: six_cards(round, order).map(six_name),
     }
+}
+
+/// The All-Six hand of a seat; none where All-Six isn't offered.
+pub(crate) fn six_cards(round: &Finished, order: usize) -> Option<[u8; 6]> {
+    let deal = Deal::new(round.seats.len(), round.table.offers_all_six());
+    let [a, b, c] = deal.community();
+    let [e, f] = deal.pocket(order);
+    let places = [a, b, c, deal.all_six()?, e, f];
+    Some(places.map(|place| round.deck[place]))
 }
 
 /// The place of a seat's first result.

@@ -41,11 +41,10 @@ fn length_of_first(records: &[u8]) -> usize {
     RECORD * (1 + later.take_while(|record| record[0] != TABLE).count())
 }
 
-/// How many amounts, how many marks and how many answers are lent for so many
-/// rounds: "35 amounts a round", marks in "a second lent list as long as the
-/// results", and "two numbers a round".
-pub fn right_lists(rounds: usize) -> [usize; 3] {
-    [RESULTS * rounds, RESULTS * rounds, ANSWERS * rounds]
+/// How many amounts and how many answers are lent for so many rounds: "one lent
+/// list takes 35 amounts a round, the other two numbers a round".
+pub fn right_lists(rounds: usize) -> [usize; 2] {
+    [RESULTS * rounds, ANSWERS * rounds]
 }
 
 /// 2, with "the count of whole records" as its place, where the file isn't one
@@ -61,45 +60,35 @@ pub fn check_length(file: &[u8]) -> Result<(), Refusal> {
     })
 }
 
-/// Settles each round as its own call does, into its part of the three lists.
+/// Settles each round as its own call does, into its part of both lists.
 /// "Refusals: 2, then 1 if either list isn't exactly that long for the number
-/// of rounds; nothing is written." "1 also for this list's length", that of the
-/// marks; "a refusal leaves it unchanged".
-pub fn settle_shift(
-    file: &[u8],
-    amounts: &mut [u64],
-    marks: &mut [u8],
-    answers: &mut [u64],
-) -> ShiftAnswer {
+/// of rounds; nothing is written."
+pub fn settle_shift(file: &[u8], amounts: &mut [u64], answers: &mut [u64]) -> ShiftAnswer {
     if let Err(Refusal { number, place }) = check_length(file) {
         return ShiftAnswer::Refused { number, place };
     }
     let count = count_rounds(file);
-    if [amounts.len(), marks.len(), answers.len()] != right_lists(count) {
+    if [amounts.len(), answers.len()] != right_lists(count) {
         let (number, place) = (1, 0);
         return ShiftAnswer::Refused { number, place };
     }
     let amounts = amounts.chunks_exact_mut(RESULTS);
-    let marks = marks.chunks_exact_mut(RESULTS);
-    let parts = amounts.zip(marks).zip(answers.chunks_exact_mut(ANSWERS));
-    for (round, ((amounts, marks), answer)) in rounds(file).zip(parts) {
-        settle_one(round, amounts, marks, answer);
+    let parts = amounts.zip(answers.chunks_exact_mut(ANSWERS));
+    for (round, (amounts, answer)) in rounds(file).zip(parts) {
+        settle_one(round, amounts, answer);
     }
     ShiftAnswer::Settled { rounds: count }
 }
 
-/// "0 and 0 when settled"; "a refused round's amounts are zeros"; "in a shift a
-/// refused round's marks are zeros".
-fn settle_one(round: &[u8], amounts: &mut [u64], marks: &mut [u8], answer: &mut [u64]) {
+/// "0 and 0 when settled"; "a refused round's amounts are zeros".
+fn settle_one(round: &[u8], amounts: &mut [u64], answer: &mut [u64]) {
     match settle(round) {
         Answer::Paid(paid) => {
             amounts.copy_from_slice(&paid.amounts);
-            marks.copy_from_slice(&paid.marks);
             answer.fill(0);
         }
         Answer::Refused { number, place } => {
             amounts.fill(0);
-            marks.fill(0);
             answer.copy_from_slice(&[u64::from(number), place as u64]);
         }
     }

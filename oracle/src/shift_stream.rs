@@ -1,9 +1,9 @@
-//! A stream of shifts: for each how many amounts, how many marks, how many
-//! answers and how many bytes, as two bytes each, low byte first, then the file.
+//! A stream of shifts: for each how many amounts, how many answers and how many
+//! bytes, as two bytes each, low byte first, then the file.
 
 use std::io::{self, Read, Write};
 
-use crate::answer::{push_marks, push_numbers, push_refused_at};
+use crate::answer::{push_numbers, push_refused_at};
 use crate::reading::two_bytes;
 use crate::settle::RESULTS;
 use crate::shift::{count_rounds, settle_shift, ShiftAnswer, ANSWERS};
@@ -14,33 +14,29 @@ use crate::text;
 #[derive(Clone, Debug, Default, PartialEq, Eq)]
 pub struct Item {
     pub amounts: u16,
-    pub marks: u16,
     pub answers: u16,
     pub file: Vec<u8>,
 }
 
-/// Stands in each place of the amounts and answers before the call: larger than
-/// any number that is written there.
-const UNWRITTEN: u64 = u64::MAX;
-/// Stands in each place of the marks before the call.
-const UNWRITTEN_MARK: u8 = u8::MAX;
+/// Stands in each place of both lists before the call: larger than any number
+/// that is written there.
+const MARK: u64 = u64::MAX;
 
 /// Reads the next item; none at the end of the stream.
 pub fn next_item(from: &mut impl Read) -> io::Result<Option<Item>> {
-    let mut head = [0; 8];
+    let mut head = [0; 6];
     match read_up_to(from, &mut head)? {
         0 => return Ok(None),
-        8 => (),
+        6 => (),
         _ => return Err(ended_inside("an item")),
     }
-    let [amounts, marks, answers, length] = [0, 2, 4, 6].map(|at| two_bytes(&head, at));
+    let [amounts, answers, length] = [0, 2, 4].map(|at| two_bytes(&head, at));
     let mut file = vec![0; usize::from(length)];
     if read_up_to(from, &mut file)? < file.len() {
         return Err(ended_inside("an item"));
     }
     Ok(Some(Item {
         amounts,
-        marks,
         answers,
         file,
     }))
@@ -49,7 +45,6 @@ pub fn next_item(from: &mut impl Read) -> io::Result<Option<Item>> {
 /// Appends an item to a stream. A file too long for its length is cut.
 pub fn put_item(to: &mut impl Write, item: &Item) -> io::Result<()> {
     to.write_all(&item.amounts.to_le_bytes())?;
-    to.write_all(&item.marks.to_le_bytes())?;
     to.write_all(&item.answers.to_le_bytes())?;
     put_file(to, &item.file)
 }
@@ -66,12 +61,11 @@ pub fn answer_all(from: &mut impl Read, to: &mut impl Write) -> io::Result<()> {
 }
 
 /// Appends the line of a shift, then, where it is settled, one for each round
-/// from the three lists.
+/// from the two lists.
 pub fn push_lines(out: &mut Vec<u8>, item: &Item) {
-    let mut amounts = vec![UNWRITTEN; item.amounts.into()];
-    let mut marks = vec![UNWRITTEN_MARK; item.marks.into()];
-    let mut answers = vec![UNWRITTEN; item.answers.into()];
-    let answer = settle_shift(&item.file, &mut amounts, &mut marks, &mut answers);
+    let mut amounts = vec![MARK; item.amounts.into()];
+    let mut answers = vec![MARK; item.answers.into()];
+    let answer = settle_shift(&item.file, &mut amounts, &mut answers);
     out.extend_from_slice(b"rounds");
     push_numbers(out, &[count_rounds(&item.file) as u64]);
     out.push(b' ');
@@ -80,45 +74,39 @@ pub fn push_lines(out: &mut Vec<u8>, item: &Item) {
             out.extend_from_slice(b"settled");
             push_numbers(out, &[rounds as u64]);
             out.push(b'\n');
-            push_rounds(out, &amounts, &marks, &answers);
+            push_rounds(out, &amounts, &answers);
         }
         ShiftAnswer::Refused { number, place } => {
             push_refused_at(out, number, place);
-            let kept = (amounts.iter().chain(&answers)).all(|&found| found == UNWRITTEN)
-                && marks.iter().all(|&found| found == UNWRITTEN_MARK);
+            let kept = amounts.iter().chain(&answers).all(|&found| found == MARK);
             let word: &[u8] = if kept { b" kept\n" } else { b" changed\n" };
             out.extend_from_slice(word);
         }
     }
 }
 
-/// The text of a shift, with how many amounts, marks and answers are lent and
-/// its lines above it as comments. Packing it gives the file back.
+/// The text of a shift, with how many amounts and answers are lent and its
+/// lines above it as comments. Packing it gives the file back.
 pub fn show(item: &Item) -> String {
     let mut lines = Vec::new();
     push_lines(&mut lines, item);
     let Item {
-        amounts,
-        marks,
-        answers,
-        ..
+        amounts, answers, ..
     } = item;
-    let mut shown = format!("# lent {amounts} amounts, {marks} marks, {answers} answers\n");
+    let mut shown = format!("# lent {amounts} amounts, {answers} answers\n");
     for line in String::from_utf8_lossy(&lines).lines() {
         shown += &format!("# {line}\n");
     }
     shown + &text::show(&item.file)
 }
 
-fn push_rounds(out: &mut Vec<u8>, amounts: &[u64], marks: &[u8], answers: &[u64]) {
-    let lists = amounts.chunks(RESULTS).zip(marks.chunks(RESULTS));
-    for ((amounts, marks), answer) in lists.zip(answers.chunks(ANSWERS)) {
+fn push_rounds(out: &mut Vec<u8>, amounts: &[u64], answers: &[u64]) {
+    let parts = amounts.chunks(RESULTS).zip(answers.chunks(ANSWERS));
+    for (amounts, answer) in parts {
         out.extend_from_slice(b"answer");
         push_numbers(out, answer);
         out.extend_from_slice(b" amounts");
         push_numbers(out, amounts);
-        out.extend_from_slice(b" lit");
-        push_marks(out, marks);
         out.push(b'\n');
     }
 }

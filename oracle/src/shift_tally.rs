@@ -52,46 +52,27 @@ const STRAYS: [&str; 6] = [
     "a choice",
     "another kind",
 ];
-/// Which lists are wrong; the first three alone, the others together.
-const FAULTS: [&str; 8] = [
+const LISTS: [&str; 18] = [
     "right",
-    "amounts wrong",
-    "marks wrong",
-    "answers wrong",
-    "amounts and marks wrong",
-    "amounts and answers wrong",
-    "marks and answers wrong",
-    "all three wrong",
+    "no amounts",
+    "amounts one fewer",
+    "amounts one more",
+    "amounts 35 fewer",
+    "amounts 35 more",
+    "amounts wrong in another way",
+    "no answers",
+    "answers one fewer",
+    "answers one more",
+    "answers two fewer",
+    "answers two more",
+    "answers wrong in another way",
+    "neither amounts nor answers",
+    "the two exchanged",
+    "both right for fewer rounds",
+    "both right for more rounds",
+    "both wrong in another way",
 ];
-const WRONG: [[bool; 3]; 8] = [
-    [false, false, false],
-    [true, false, false],
-    [false, true, false],
-    [false, false, true],
-    [true, true, false],
-    [true, false, true],
-    [false, true, true],
-    [true, true, true],
-];
-/// How a list is wrong alone.
-const WAYS_ALONE: [&str; 6] = [
-    "none lent",
-    "one fewer",
-    "one more",
-    "those of a round fewer",
-    "those of a round more",
-    "in another way",
-];
-/// How lists are wrong together.
-const WAYS_TOGETHER: [&str; 5] = [
-    "none lent",
-    "exchanged with the other length",
-    "right for fewer rounds",
-    "right for more rounds",
-    "in another way",
-];
-/// What is lent for a round of each list.
-const A_ROUND: [usize; 3] = [RESULTS, RESULTS, ANSWERS];
+const FAULTS: [&str; 4] = ["right", "amounts wrong", "answers wrong", "both wrong"];
 const ODD: [&str; 3] = [
     "no whole record before them",
     "whole records before them",
@@ -115,7 +96,6 @@ pub struct ShiftTally {
     pub unfinished: Section,
     pub unfinished_lengths: Section,
     pub strays: Section,
-    pub refused_1: Section,
     pub lists: Section,
     pub empty_lists: Section,
     pub tails: Section,
@@ -161,8 +141,7 @@ impl ShiftTally {
             unfinished: Section::new("rounds refused 16", UNFINISHED),
             unfinished_lengths: Section::new("rounds refused 16 by their records", 1..33),
             strays: Section::new("first records after the finish of a round", STRAYS),
-            refused_1: Section::new("shifts refused 1 by their lists", &FAULTS[1..]),
-            lists: Section::new("lists of shifts without odd bytes", list_labels()),
+            lists: Section::new("lists of shifts without odd bytes", LISTS),
             empty_lists: Section::new("lists of empty files", FAULTS),
             tails: Section::new("odd bytes at the end", 1..16),
             odd: Section::new("shifts with odd bytes", ODD),
@@ -170,7 +149,7 @@ impl ShiftTally {
         }
     }
 
-    pub fn sections(&self) -> [&Section; 19] {
+    pub fn sections(&self) -> [&Section; 18] {
         [
             &self.answers,
             &self.counts,
@@ -185,7 +164,6 @@ impl ShiftTally {
             &self.unfinished,
             &self.unfinished_lengths,
             &self.strays,
-            &self.refused_1,
             &self.lists,
             &self.empty_lists,
             &self.tails,
@@ -202,22 +180,16 @@ impl ShiftTally {
     fn shift(&mut self, item: &Item) {
         self.shifts += 1;
         self.bytes += item.file.len() as u64;
-        let count = count_rounds(&item.file);
-        let lists = Lists::new(item, count);
         let mut amounts = vec![0; item.amounts.into()];
-        let mut marks = vec![0; item.marks.into()];
         let mut answers = vec![0; item.answers.into()];
-        match settle_shift(&item.file, &mut amounts, &mut marks, &mut answers) {
-            ShiftAnswer::Refused { number: 1, .. } => {
-                self.answers.count(1);
-                self.refused_1.count(lists.fault() - 1);
-            }
+        match settle_shift(&item.file, &mut amounts, &mut answers) {
             ShiftAnswer::Refused { number, .. } => self.answers.count(number.into()),
             ShiftAnswer::Settled { .. } => {
                 self.answers.count(0);
                 self.settled(&item.file, &answers);
             }
         }
+        let count = count_rounds(&item.file);
         self.counts.count(match count {
             0 => 0,
             1 => 1,
@@ -225,10 +197,10 @@ impl ShiftTally {
             7..=20 => 3,
             _ => 4,
         });
-        self.lists(item, &lists);
+        self.lists(item, lists_row(item, count));
     }
 
-    fn lists(&mut self, item: &Item, lists: &Lists) {
+    fn lists(&mut self, item: &Item, row: usize) {
         let whole = item.file.len() / RECORD * RECORD;
         if let [first, ..] = item.file[whole..] {
             self.tails.count(item.file.len() - whole - 1);
@@ -236,12 +208,12 @@ impl ShiftTally {
             if first == TABLE {
                 self.odd.count(2);
             }
-            self.odd_lists.count(lists.fault());
+            self.odd_lists.count(fault_row(row));
             return;
         }
-        self.lists.count(lists.row());
+        self.lists.count(row);
         if item.file.is_empty() {
-            self.empty_lists.count(lists.fault());
+            self.empty_lists.count(fault_row(row));
         }
     }
 
@@ -381,86 +353,48 @@ fn stray_row(record: &[u8]) -> usize {
     }
 }
 
-/// The rows of lists that are right, of each way in which one is wrong alone, and
-/// of each way in which some are wrong together.
-fn list_labels() -> Vec<String> {
-    let mut labels = vec![FAULTS[0].to_string()];
-    for (fault, name) in FAULTS.iter().enumerate().skip(1) {
-        let ways = if fault < 4 {
-            &WAYS_ALONE[..]
-        } else {
-            &WAYS_TOGETHER
-        };
-        labels.extend(ways.iter().map(|way| format!("{name}: {way}")));
+/// The place in `LISTS` of the lists that are lent for so many rounds.
+fn lists_row(item: &Item, rounds: usize) -> usize {
+    let lent = [item.amounts, item.answers].map(usize::from);
+    let right = right_lists(rounds);
+    match (lent[0] == right[0], lent[1] == right[1]) {
+        (true, true) => 0,
+        (false, true) => 1 + length_row(lent[0], right[0], RESULTS),
+        (true, false) => 7 + length_row(lent[1], right[1], ANSWERS),
+        (false, false) => 13 + both_row(lent, right),
     }
-    labels
 }
 
-/// How many amounts, marks and answers are lent, and how many should be for so
-/// many rounds.
-struct Lists {
-    lent: [usize; 3],
-    right: [usize; 3],
-    rounds: usize,
+/// The place, among the ways in which one list is wrong, of a length.
+fn length_row(lent: usize, right: usize, a_round: usize) -> usize {
+    match lent {
+        0 => 0,
+        _ if lent + 1 == right => 1,
+        _ if lent == right + 1 => 2,
+        _ if lent + a_round == right => 3,
+        _ if lent == right + a_round => 4,
+        _ => 5,
+    }
 }
 
-impl Lists {
-    fn new(item: &Item, rounds: usize) -> Lists {
-        Lists {
-            lent: [item.amounts, item.marks, item.answers].map(usize::from),
-            right: right_lists(rounds),
-            rounds,
-        }
+/// The place, among the ways in which both lists are wrong, of their lengths.
+fn both_row(lent: [usize; 2], right: [usize; 2]) -> usize {
+    let fit_together = right_lists(lent[0] / RESULTS) == lent;
+    match lent {
+        [0, 0] => 0,
+        [amounts, answers] if [answers, amounts] == right => 1,
+        [amounts, _] if fit_together && amounts < right[0] => 2,
+        _ if fit_together => 3,
+        _ => 4,
     }
+}
 
-    fn is_wrong(&self, list: usize) -> bool {
-        self.lent[list] != self.right[list]
-    }
-
-    /// The place in `FAULTS`.
-    fn fault(&self) -> usize {
-        let wrong = [0, 1, 2].map(|list| self.is_wrong(list));
-        WRONG.iter().position(|&other| other == wrong).unwrap_or(0)
-    }
-
-    /// The place among the rows of lists.
-    fn row(&self) -> usize {
-        match self.fault() {
-            0 => 0,
-            fault @ 1..=3 => 1 + WAYS_ALONE.len() * (fault - 1) + self.way_alone(fault - 1),
-            fault => {
-                let alone = WAYS_ALONE.len() * 3;
-                1 + alone + WAYS_TOGETHER.len() * (fault - 4) + self.way_together()
-            }
-        }
-    }
-
-    /// The place in `WAYS_ALONE` of a wrong list.
-    fn way_alone(&self, list: usize) -> usize {
-        let [lent, right] = [self.lent[list], self.right[list]];
-        match lent {
-            0 => 0,
-            _ if lent + 1 == right => 1,
-            _ if lent == right + 1 => 2,
-            _ if lent + A_ROUND[list] == right => 3,
-            _ if lent == right + A_ROUND[list] => 4,
-            _ => 5,
-        }
-    }
-
-    /// The place in `WAYS_TOGETHER` of the wrong lists.
-    fn way_together(&self) -> usize {
-        let wrong: Vec<usize> = (0..3).filter(|&list| self.is_wrong(list)).collect();
-        let are = |lengths: [usize; 3]| wrong.iter().all(|&list| self.lent[list] == lengths[list]);
-        let rounds = wrong
-            .first()
-            .map_or(0, |&list| self.lent[list] / A_ROUND[list]);
-        match right_lists(rounds) {
-            _ if are([0; 3]) => 0,
-            _ if are([self.right[2], self.right[2], self.right[0]]) => 1,
-            lengths if are(lengths) && rounds < self.rounds => 2,
-            lengths if are(lengths) => 3,
-            _ => 4,
-        }
+/// The place in `FAULTS` of a place in `LISTS`.
+fn fault_row(lists: usize) -> usize {
+    match lists {
+        0 => 0,
+        1..=6 => 1,
+        7..=12 => 2,
+        _ => 3,
     }
 }

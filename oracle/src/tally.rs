@@ -8,14 +8,13 @@ use crate::generate::stacks::STACKS;
 use crate::generate::{Generator, Made};
 use crate::held::{Held, Step};
 use crate::held_file;
-use crate::lit_tally::LitTally;
 use crate::names::{five_name, five_of_six, six_name, FiveName, SixName};
 use crate::paytables;
 use crate::pool::maximum;
 use crate::reading::{read, Finished, Seat, STREETS};
-use crate::settle::{first_result, hands_of_seat, names_of_seat, settle_round, Paid, SeatNames};
+use crate::settle::{first_result, names_of_seat, settle_round, six_cards, Paid, SeatNames};
 
-pub(crate) const FIVE_NAMES: [&str; 11] = [
+const FIVE_NAMES: [&str; 11] = [
     "royal flush",
     "straight flush",
     "four of a kind",
@@ -28,7 +27,7 @@ pub(crate) const FIVE_NAMES: [&str; 11] = [
     "pair of sixes to tens",
     "other",
 ];
-pub(crate) const BOARD_NAMES: [&str; 7] = [
+const BOARD_NAMES: [&str; 7] = [
     "royal",
     "straight flush",
     "three of a kind",
@@ -37,14 +36,14 @@ pub(crate) const BOARD_NAMES: [&str; 7] = [
     "pair",
     "other",
 ];
-pub(crate) const POCKET_NAMES: [&str; 5] = [
+const POCKET_NAMES: [&str; 5] = [
     "pair of aces",
     "ace with K, Q or J suited",
     "ace with K, Q or J unsuited",
     "other pair",
     "nothing",
 ];
-pub(crate) const LO_BALL_NAMES: [&str; 9] = [
+const LO_BALL_NAMES: [&str; 9] = [
     "7 high",
     "8 high",
     "9 high",
@@ -55,7 +54,7 @@ pub(crate) const LO_BALL_NAMES: [&str; 9] = [
     "ace high",
     "nothing",
 ];
-pub(crate) const SIX_NAMES: [&str; 13] = [
+const SIX_NAMES: [&str; 13] = [
     "six-card royal of diamonds",
     "six-card royal, other",
     "royal flush",
@@ -72,7 +71,7 @@ pub(crate) const SIX_NAMES: [&str; 13] = [
 ];
 const SUIT_NAMES: [&str; 4] = ["clubs", "diamonds", "hearts", "spades"];
 /// The places of an All-Six hand.
-pub(crate) const SIX_PLACES: [&str; 6] = [
+const SIX_PLACES: [&str; 6] = [
     "community card 1",
     "community card 2",
     "community card 3",
@@ -264,7 +263,6 @@ pub struct Tally {
     pub kept: Section,
     /// Those that it keeps without that card alone.
     pub kept_alone: Section,
-    pub lit: LitTally,
     pub taken: Section,
     pub written: Section,
     pub stages: Section,
@@ -329,7 +327,6 @@ impl Tally {
                 "All-Six names kept without that card alone, wager placed",
                 &WHOLE_FIVE,
             ),
-            lit: LitTally::empty(),
             taken: Section::new(
                 "answers of the held file to the last record",
                 taken.chain(refused),
@@ -339,9 +336,8 @@ impl Tally {
         }
     }
 
-    /// The ways of damage come last.
-    pub fn sections(&self) -> Vec<&Section> {
-        let mut sections = vec![
+    pub fn sections(&self) -> [&Section; 28] {
+        [
             &self.answers,
             &self.taken,
             &self.written,
@@ -368,10 +364,9 @@ impl Tally {
             &self.six_card_royals,
             &self.kept,
             &self.kept_alone,
-        ];
-        sections.extend(self.lit.sections());
-        sections.extend([&self.patterns, &self.ways]);
-        sections
+            &self.patterns,
+            &self.ways,
+        ]
     }
 
     fn file(&mut self, made: &Made) {
@@ -430,12 +425,7 @@ impl Tally {
     }
 
     fn round(&mut self, round: &Finished) {
-        let Paid {
-            amounts,
-            marks,
-            full,
-            ..
-        } = settle_round(round);
+        let Paid { amounts, full, .. } = settle_round(round);
         let most = maximum(round.table.smallest);
         self.pools.count(pool_level(full, most));
         self.seats.count(round.seats.len() - 1);
@@ -449,18 +439,17 @@ impl Tally {
         }
         let folded_pooled = self.round_seats(round);
         self.all_six_round(round, &amounts, pool_level(full, most));
-        self.lit.round(round, &marks);
         let all_at_once = round
             .seats
             .iter()
             .all(|seat| seat.folded && seat.chosen == 1);
-        let found = [
+        let marks = [
             folded_pooled,
             amounts.iter().any(|amount| amount % 100 == 50),
             round.deck[39..].contains(&0),
             all_at_once && amounts.iter().any(|&amount| amount > 0),
         ];
-        for (row, _) in found.iter().enumerate().filter(|(_, found)| **found) {
+        for (row, _) in marks.iter().enumerate().filter(|(_, mark)| **mark) {
             self.others.count(row);
         }
     }
@@ -523,7 +512,7 @@ impl Tally {
             let results = &amounts[first_result(seat)..];
             above_50 |= results[4] > 100 * 51 * u64::from(seat.all_six);
             self.all_six_seat(seat, results);
-            if let Some(cards) = hands_of_seat(round, order).six {
+            if let Some(cards) = six_cards(round, order) {
                 self.six_hand(cards);
             }
         }
@@ -614,8 +603,7 @@ impl Tally {
         let mut text = format!("files {}, bytes {}", self.files, self.bytes);
         let average = self.bytes as f64 / self.files.max(1) as f64;
         let _ = writeln!(text, ", bytes a file {average:.1}");
-        let sections = self.sections();
-        for section in &sections[..sections.len() - 1] {
+        for section in &self.sections()[..27] {
             print_section(&mut text, section);
         }
         let _ = writeln!(text, "\n{}", self.ways.title);

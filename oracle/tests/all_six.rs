@@ -97,27 +97,24 @@ fn the_all_six_card_counts_for_all_six_alone() {
     assert_eq!(lines(&pair), "3 0 4100 0 10100 0\npool 0 0\n");
 }
 
-type Hand = (&'static str, &'static str, [u64; 5], u64, [u8; 2]);
-
 /// The name of the first six cards of the deck; its odds in tables 1 to 5 as
 /// Appendix E has them; the cents for a base wager of 60 dollars on the five
-/// without the fourth card; the marks of base and All-Six, where the six cards
-/// count 1, 2, 4, 8, 16 and 32.
+/// without the fourth card.
 #[rustfmt::skip]
-const HANDS: [Hand; 13] = [
-    ("six-card royal of diamonds", "Td Kd 9d Ad Qd Jd", [1_000, 1_000, 1_000, 1_000, 200_000], 606_000, [55, 63]),
-    ("six-card royal of hearts", "Th Kh 9h Ah Qh Jh", [1_000, 1_000, 1_000, 1_000, 20_000], 606_000, [55, 63]),
-    ("royal flush", "Td Kd 2c Ad Qd Jd", [1_000; 5], 0, [0, 59]),
-    ("straight flush", "8s 9s Ts Js Qs Ks", [200; 5], 42_000, [55, 31]),
-    ("four of a kind", "8s 8h 3d 8d 8c Ks", [50, 50, 100, 100, 50], 24_000, [19, 27]),
-    ("full house", "8s 8h 3d 8d 3c Ks", [25, 25, 20, 20, 20], 15_000, [23, 31]),
-    ("flush", "8s 2s 3s Ks Qs Qd", [20, 15, 15, 15, 15], 12_000, [48, 31]),
-    ("straight", "As 2s 3d 4h 5c Kd", [10, 10, 9, 10, 10], 0, [0, 31]),
-    ("three of a kind", "As Ad 3d 4h Ac Kd", [5, 5, 8, 7, 5], 24_000, [19, 19]),
-    ("two pair", "As Ad 3d 3h 4c 4d", [0; 5], 15_000, [51, 15]),
-    ("pair of aces", "As Ad 3d 5h 7c 9d", [0; 5], 12_000, [3, 3]),
-    ("pair of tens", "Ts Td 3d 5h 7c 9d", [0; 5], 6_000, [3, 3]),
-    ("other", "As Kd 3d 5h 7c 9d", [0; 5], 0, [0, 0]),
+const HANDS: [(&str, &str, [u64; 5], u64); 13] = [
+    ("six-card royal of diamonds", "Td Kd 9d Ad Qd Jd", [1_000, 1_000, 1_000, 1_000, 200_000], 606_000),
+    ("six-card royal of hearts", "Th Kh 9h Ah Qh Jh", [1_000, 1_000, 1_000, 1_000, 20_000], 606_000),
+    ("royal flush", "Td Kd 2c Ad Qd Jd", [1_000; 5], 0),
+    ("straight flush", "8s 9s Ts Js Qs Ks", [200; 5], 42_000),
+    ("four of a kind", "8s 8h 3d 8d 8c Ks", [50, 50, 100, 100, 50], 24_000),
+    ("full house", "8s 8h 3d 8d 3c Ks", [25, 25, 20, 20, 20], 15_000),
+    ("flush", "8s 2s 3s Ks Qs Qd", [20, 15, 15, 15, 15], 12_000),
+    ("straight", "As 2s 3d 4h 5c Kd", [10, 10, 9, 10, 10], 0),
+    ("three of a kind", "As Ad 3d 4h Ac Kd", [5, 5, 8, 7, 5], 24_000),
+    ("two pair", "As Ad 3d 3h 4c 4d", [0; 5], 15_000),
+    ("pair of aces", "As Ad 3d 5h 7c 9d", [0; 5], 12_000),
+    ("pair of tens", "Ts Td 3d 5h 7c 9d", [0; 5], 6_000),
+    ("other", "As Kd 3d 5h 7c 9d", [0; 5], 0),
 ];
 
 /// Wagers of each table, seat folded on each street and not folded: "Folded
@@ -130,7 +127,7 @@ fn every_odds_of_appendix_e() {
         "choice 4 raise 1\nchoice 4 raise 1\nchoice 4 fold",
         "choice 4 raise 1\nchoice 4 raise 1\nchoice 4 raise 1",
     ];
-    for (name, top, odds, base, [base_mark, six_mark]) in HANDS {
+    for (name, top, odds, base) in HANDS {
         for (six, odds) in (1..).zip(odds) {
             for wager in [0, 1, 37, 100] {
                 let head = format!(
@@ -146,14 +143,10 @@ fn every_odds_of_appendix_e() {
                     } else {
                         0
                     };
-                    let mut marks = [0; 35];
-                    marks[15] = if street == 3 { base_mark } else { 0 };
-                    marks[19] = if wager > 0 { six_mark } else { 0 };
                     // The pool has the straight flush at 100 alone.
                     let full = if base > 100_000 { 6_000 } else { 0 };
                     let expected = Paid {
                         amounts,
-                        marks,
                         full,
                         paid: full,
                     };
@@ -182,12 +175,8 @@ fn all_six_wins_stay_out_of_the_pool() {
     amounts[0] = 2_600_000;
     amounts[4] = 2_000_010_000;
     amounts[34] = 60_300;
-    // Seat 7 leaves out 2c, the seat's second.
-    let mut marks = [0; 35];
-    [marks[0], marks[4], marks[34]] = [55, 63, 31];
     let answer = Answer::Paid(Paid {
         amounts,
-        marks,
         full: 500_000,
         paid: 25_000,
     });
@@ -215,7 +204,7 @@ fn seven_seats() {
 /// the same wherever a card lies.
 #[test]
 fn the_places_of_the_six_cards() {
-    for (name, top, odds, ..) in HANDS {
+    for (name, top, odds, _) in HANDS {
         let words: Vec<&str> = top.split(' ').collect();
         for turn in 0..6 {
             let mut turned = words.clone();
@@ -269,7 +258,7 @@ fn files_without_all_six() {
     assert!(found > 500, "{found}");
 }
 
-/// The wager changes its own amount and mark alone, and others don't depend on
+/// The wager changes its own amount alone, and other amounts don't depend on
 /// it.
 #[test]
 fn the_wager_changes_its_own_amount_alone() {
@@ -291,11 +280,7 @@ fn the_wager_changes_its_own_amount_alone() {
             before.amounts[result],
             100 * odds * made.draft.seats[0].sides[3] as u64
         );
-        let placed = made.draft.seats[0].sides[3] > 0;
-        let mark = if placed { one.marks[result] } else { 0 };
-        assert_eq!(before.marks[result], mark);
         one.amounts[result] = before.amounts[result];
-        one.marks[result] = mark;
         assert_eq!(one, before, "{place}");
         found[usize::from(odds > 0)] += 1;
     }

@@ -140,66 +140,6 @@ fn each_answer_of_a_held_file_comes_often() {
     }
 }
 
-/// Each name of each wager is lit, each wager comes dark, and folded seats have
-/// lit side wagers; each place of an All-Six hand is left out, and each kind of
-/// hand comes of which several choices have the best name: once in 500 files.
-#[test]
-fn each_thing_lit_comes_often() {
-    let tally = Tally::of(5_000, 1);
-    let lit = &tally.lit;
-    let often = [
-        &lit.names,
-        &lit.counts,
-        &lit.dark,
-        &lit.folded,
-        &lit.left_out,
-        &lit.several,
-    ];
-    let each = [&lit.marks, &lit.left_out_of_name];
-    for (sections, least) in [(&often[..], 10), (&each, 3)] {
-        for section in sections {
-            for (label, count) in &section.rows {
-                assert!(*count >= least, "{}: {label}: {count}", section.title);
-            }
-        }
-    }
-}
-
-/// A wager that is lit is counted by its name, by its cards and by its mark; of
-/// All-Six a card is left out but for the six-card royals.
-#[test]
-fn each_wager_lit_is_counted() {
-    let tally = Tally::of(5_000, 1);
-    let sum = |section: &Section, from: &str| -> u64 {
-        let rows = section.rows.iter();
-        let its = rows.filter(|(label, _)| label.starts_with(from));
-        its.map(|(_, count)| count).sum()
-    };
-    let lit = &tally.lit;
-    for wager in ["base", "Board", "Pocket", "Lo Ball", "All-Six"] {
-        let count = sum(&lit.names, wager);
-        assert!(count > 1_000, "{wager}: {count}");
-        assert_eq!(sum(&lit.counts, wager), count, "{wager}");
-        assert_eq!(sum(&lit.marks, wager), count, "{wager}");
-    }
-    assert_eq!(
-        sum(&lit.names, "base") + sum(&lit.dark, "base, not folded"),
-        sum(&tally.base, "")
-    );
-    for (wager, named) in [
-        ("Board", &tally.board),
-        ("Pocket", &tally.pocket),
-        ("Lo Ball", &tally.lo_ball),
-        ("All-Six", &tally.all_six),
-    ] {
-        let placed = sum(&lit.names, wager) + sum(&lit.dark, wager);
-        assert_eq!(placed, sum(named, ""), "{wager}");
-    }
-    let left_out = sum(&tally.all_six, "") - sum(&tally.six_card_royals, "");
-    assert_eq!(sum(&lit.left_out, ""), left_out);
-    assert_eq!(sum(&lit.left_out_of_name, ""), left_out);
-}
-
 #[test]
 fn a_file_depends_on_seed_and_place_alone() {
     let [one, same, other] = [5, 5, 6].map(Generator::new);

@@ -113,41 +113,32 @@ fn a_seat_comes_to_a_table_without_all_six() {
 /// 20 × 10 = 200 dollars and A-K suited at 20, seat 2 a straight flush on
 /// 30 × 7 = 210, seat 5 three queens on 12 × 5 = 60 at 3 and a pair at 5. Of
 /// 100,000 and 21,000 under 50,000 are paid 41,322 and 8,677 rounded down, with
-/// 38,000 and 83,000 parts in 121,000 over: seat 2 has the dollar left. Lit are
-/// both flushes, the board and the pocket of seat 1, and of seat 5 Qh, which is
-/// the third community card, and its two queens.
+/// 38,000 and 83,000 parts in 121,000 over: seat 2 has the dollar left.
 #[test]
 fn the_finished_round_without_a_fold() {
     let paid = "take refused 3 settle paid 4152200 20500 10500 0 0 888800 0 0 0 0 \
                 0 0 0 0 0 0 0 0 0 0 24000 0 35400 0 0 0 0 0 0 0 0 0 0 0 0 \
-                pool 121000 50000 lit 55 7 48 0 0 55 0 0 0 0 \
-                0 0 0 0 0 0 0 0 0 0 52 0 48 0 0 0 0 0 0 0 0 0 0 0 0 write ";
+                pool 121000 50000 write ";
     assert!(line(&items_of(&base("finished, no fold"))[0]).starts_with(paid));
 }
 
 /// The board is 4h 9h Jh, a flush at 4. Seat 3 has aces at 30, seat 5 jack
 /// high at 1, seat 7 a pair at 5. With the All-Six card Ah seat 3 has three aces
-/// at 8 on 99, seat 5 ace high. No base is lit; of seat 5 the third community
-/// card, the jack, is.
+/// at 8 on 99, seat 5 ace high.
 #[test]
 fn the_finished_round_in_which_all_folded() {
     let paid = "take refused 3 settle paid 0 0 0 0 0 0 0 0 0 0 0 5000 306900 0 89100 \
-                0 0 0 0 0 0 0 0 4000 0 0 0 0 0 0 0 500 58800 0 0 pool 0 0 \
-                lit 0 0 0 0 0 0 0 0 0 0 0 7 48 0 56 \
-                0 0 0 0 0 0 0 0 4 0 0 0 0 0 0 0 7 48 0 0 write ";
+                0 0 0 0 0 0 0 0 4000 0 0 0 0 0 0 0 500 58800 0 0 pool 0 0 write ";
     assert!(line(&items_of(&base("finished, all folded"))[0]).starts_with(paid));
 }
 
 /// The board is Td Qd Ad, a flush at 3, the All-Six card Jd. Seat 2 has Kd 9d
 /// and folded: the six-card royal of diamonds at 200,000 on 100. Seat 6 has
-/// three aces: 10 × 4 = 40 dollars at 3, and All-Six at 5 on 1; Ad is the third
-/// community card.
+/// three aces: 10 × 4 = 40 dollars at 3, and All-Six at 5 on 1.
 #[test]
 fn the_finished_round_with_a_six_card_royal() {
     let paid = "take refused 3 settle paid 0 0 0 0 0 0 0 0 0 2000010000 \
-                0 0 0 0 0 0 0 0 0 0 0 0 0 0 0 16000 400 0 0 600 0 0 0 0 0 pool 0 0 \
-                lit 0 0 0 0 0 0 0 0 0 63 \
-                0 0 0 0 0 0 0 0 0 0 0 0 0 0 0 52 7 0 0 52 0 0 0 0 0 write ";
+                0 0 0 0 0 0 0 0 0 0 0 0 0 0 0 16000 400 0 0 600 0 0 0 0 0 pool 0 0 write ";
     assert!(line(&items_of(&base("finished, six-card royal"))[0]).starts_with(paid));
 }
 

@@ -124,13 +124,8 @@ fn the_whole_round_of_document_01() {
     let mut amounts = [0; 35];
     amounts[..4].copy_from_slice(&[2_183_300, 20_500, 10_500, 0]);
     amounts[5] = 516_700;
-    // Both hands are lit whole, and so are the board of seat 1 and its A-K.
-    let mut marks = [0; 35];
-    marks[..3].copy_from_slice(&[55, 7, 48]);
-    marks[5] = 55;
     let answer = Answer::Paid(Paid {
         amounts,
-        marks,
         full: 600_000,
         paid: 25_000,
     });

@@ -39,12 +39,6 @@ fn round() -> Vec<u8> {
     pack(include_str!("round01.txt")).unwrap()
 }
 
-/// The marks of that round: a royal flush over the hearts 10 to queen, this board
-/// and A-K suited; a straight flush, the side wagers of which are dark.
-fn round_marks() -> String {
-    " 55 7 48 0 0 55".to_string() + &" 0".repeat(29)
-}
-
 fn stream_of(files: &[&[u8]]) -> Vec<u8> {
     let mut stream = Vec::new();
     for file in files {
@@ -75,8 +69,7 @@ fn settles_a_file_with_all_six() {
     let two_absent = " 0".repeat(10);
     let line = format!(
         "paid 0 0 0 0 0 2520000 20500 21000 0 500002500{two_absent} 0 0 0 1000 804000 \
-         0 0 0 0 0 5000 4100 1000 0 1800 pool 100000 25000 lit 0 0 0 0 0 55 7 48 0 63\
-         {two_absent} 0 0 0 4 31 0 0 0 0 0 48 7 48 0 56 part 288 take finished written 9 "
+         0 0 0 0 0 5000 4100 1000 0 1800 pool 100000 25000 part 288 take finished written 9 "
     );
     let answer = printed(&["stream"], &stream_of(&[&file]));
     assert!(answer.starts_with(&line), "{answer}");
@@ -89,51 +82,6 @@ fn settles_a_file_with_all_six() {
     let seat = "refused 9 at 2 part 32 0202140005000a000000190000000000 take refused 17 ";
     let answer = printed(&["stream"], &stream_of(&[&not_offered]));
     assert!(answer.starts_with(seat), "{answer}");
-}
-
-/// The board is Td Jd Qd, the All-Six card 9d. Seat 1 folded and has no side
-/// wager. Seat 2 has Kd Ad: all cards are lit everywhere. Seat 5 has 8d 3c and
-/// folded: the queen of queen high, and 8 to Q without 3c. Seat 7 has 9h 9c: its
-/// pair, the board, its pair again, no Lo Ball name, three nines.
-#[test]
-fn the_marks_of_one_file() {
-    let file = pack(include_str!("all_six.txt")).unwrap();
-    let lines = "1 0 0 0 0 0\n2 55 7 48 0 63\n5 0 0 0 4 31\n7 48 7 48 0 56\n";
-    assert_eq!(printed(&["lit"], &file), lines);
-    assert_eq!(printed(&["lit"], &round()), "1 55 7 48 0 0\n2 55 0 0 0 0\n");
-    assert_eq!(printed(&["lit"], &[]), "refused 16 at 0\n");
-    assert_eq!(printed(&["lit"], &[1; 33]), "refused 2 at 2\n");
-    assert_eq!(printed(&["lit"], &bad_round()), "refused 4 at 1\n");
-}
-
-#[test]
-fn the_sheet_of_one_file() {
-    let file = pack(include_str!("all_six.txt")).unwrap();
-    let lines = [
-        "community Td Jd Qd  all-six 9d",
-        "seat 1 2c 7h  base TdJdQd2c7h folded 0.00",
-        "seat 2 Kd Ad  base [TdJdQdKdAd] royal flush 25200.00",
-        "  board [TdJdQd] straight flush 205.00  pocket [KdAd] ace-face suited 210.00",
-        "  six [TdJdQd9dKdAd] royal of diamonds 5000025.00",
-        "seat 5 8d 3c  base TdJdQd8d3c folded 0.00",
-        "  lo TdJd[Qd]8d3c Q high 10.00  six [TdJdQd9d8d]3c straight flush 8040.00",
-        "seat 7 9h 9c  base TdJdQd[9h9c] sixes to tens 50.00",
-        "  board [TdJdQd] straight flush 41.00  pocket [9h9c] other pair 10.00",
-        "  lo TdJdQd9h9c nothing 0.00  six TdJdQd[9d9h9c] three of a kind 18.00",
-    ];
-    assert_eq!(printed(&["sheet"], &file), lines.join("\n") + "\n");
-    let lines = [
-        "community Th Jh Qh",
-        "seat 1 Ah Kh  base [ThJhQhAhKh] royal flush 21833.00",
-        "  board [ThJhQh] straight flush 205.00  pocket [AhKh] ace-face suited 105.00",
-        "seat 2 8h 9h  base [ThJhQh8h9h] straight flush 5167.00",
-        "  pocket 8h9h nothing 0.00",
-        "  lo ThJhQh8h9h nothing 0.00",
-    ];
-    assert_eq!(printed(&["sheet"], &round()), lines.join("\n") + "\n");
-    assert_eq!(printed(&["sheet"], &[]), "refused 16 at 0\n");
-    assert_eq!(printed(&["sheet"], &[1; 33]), "refused 2 at 2\n");
-    assert_eq!(printed(&["sheet"], &bad_round()), "refused 4 at 1\n");
 }
 
 #[test]
@@ -173,10 +121,9 @@ fn answers_a_stream() {
     bad[1] = 4;
     let stream = stream_of(&[&round(), &[], &bad, &[0xab, 0x0c], &round()[..32]]);
     let zeros = " 0".repeat(25);
-    let marks = round_marks();
     let paid = format!(
-        "paid 2183300 20500 10500 0 0 516700 0 0 0 0{zeros} pool 600000 25000 lit{marks} \
-         part 208 take finished written 13"
+        "paid 2183300 20500 10500 0 0 516700 0 0 0 0{zeros} pool 600000 25000 part 208 \
+         take finished written 13"
     );
     let lines = [
         paid.as_str(),
@@ -212,9 +159,8 @@ fn bad_round() -> Vec<u8> {
 #[test]
 fn settles_a_shift() {
     let paid = format!(
-        "paid 2183300 20500 10500 0 0 516700{} pool 600000 25000 lit{}\n",
-        " 0".repeat(29),
-        round_marks()
+        "paid 2183300 20500 10500 0 0 516700{} pool 600000 25000\n",
+        " 0".repeat(29)
     );
     let file = [&round()[..], &bad_round(), &round()[..32], &round()].concat();
     let lines = format!("{paid}refused 4 at 1\nrefused 16 at 2\n{paid}");
@@ -226,9 +172,9 @@ fn settles_a_shift() {
     assert_eq!(printed(&["shift"], &[1; 15]), "refused 2 at 0\n");
 }
 
-/// A shift of a stream, with so many amounts, marks and answers.
-fn item([amounts, marks, answers]: [u16; 3], file: &[u8]) -> Vec<u8> {
-    let head = [amounts, marks, answers, file.len() as u16].map(u16::to_le_bytes);
+/// A shift of a stream, with so many amounts and answers.
+fn item(amounts: u16, answers: u16, file: &[u8]) -> Vec<u8> {
+    let head = [amounts, answers, file.len() as u16].map(u16::to_le_bytes);
     [&head.concat()[..], file].concat()
 }
 
@@ -237,36 +183,28 @@ fn answers_a_stream_of_shifts() {
     let file = [round(), bad_round()].concat();
     let tailed = [&file[..], &[1]].concat();
     let stream = [
-        item([70, 70, 4], &file),
-        item([0, 0, 0], &[]),
-        item([35, 0, 0], &[]),
-        item([0, 1, 0], &[]),
-        item([69, 70, 4], &file),
-        item([70, 69, 4], &file),
-        item([70, 71, 4], &file),
-        item([70, 0, 4], &file),
-        item([70, 35, 4], &file),
-        item([70, 70, 5], &file),
-        item([70, 4, 70], &file),
-        item([256, 256, 512], &file),
-        item([70, 70, 4], &tailed),
-        item([0, 0, 0], &[1; 15]),
-        item([35, 35, 2], &round()[..16]),
+        item(70, 4, &file),
+        item(0, 0, &[]),
+        item(35, 0, &[]),
+        item(69, 4, &file),
+        item(70, 5, &file),
+        item(256, 512, &file),
+        item(70, 4, &tailed),
+        item(0, 0, &[1; 15]),
+        item(35, 2, &round()[..16]),
     ];
     let zeros = " 0".repeat(35);
     let paid = " 2183300 20500 10500 0 0 516700".to_string() + &" 0".repeat(29);
-    let marks = round_marks();
-    let refused_1 = "rounds 2 refused 1 at 0 kept\n".repeat(8);
     let lines = format!(
-        "rounds 2 settled 2\nanswer 0 0 amounts{paid} lit{marks}\n\
-         answer 4 1 amounts{zeros} lit{zeros}\n\
+        "rounds 2 settled 2\nanswer 0 0 amounts{paid}\nanswer 4 1 amounts{zeros}\n\
          rounds 0 settled 0\n\
          rounds 0 refused 1 at 0 kept\n\
-         rounds 0 refused 1 at 0 kept\n\
-         {refused_1}\
+         rounds 2 refused 1 at 0 kept\n\
+         rounds 2 refused 1 at 0 kept\n\
+         rounds 2 refused 1 at 0 kept\n\
          rounds 2 refused 2 at 26 kept\n\
          rounds 0 refused 2 at 0 kept\n\
-         rounds 1 settled 1\nanswer 16 1 amounts{zeros} lit{zeros}\n"
+         rounds 1 settled 1\nanswer 16 1 amounts{zeros}\n"
     );
     assert_eq!(printed(&["stream", "--shifts"], &stream.concat()), lines);
     assert_eq!(printed(&["stream", "--shifts"], &[]), "");
@@ -274,10 +212,9 @@ fn answers_a_stream_of_shifts() {
 
 #[test]
 fn a_stream_that_ends_inside_a_shift() {
-    let last = item([1, 2, 0], &[2, 0, 0]);
-    assert_eq!(last, [1, 0, 2, 0, 0, 0, 3, 0, 2, 0, 0]);
+    let last = item(1, 0, &[2, 0, 0]);
     for length in 1..last.len() {
-        let stream = [&item([0; 3], &[])[..], &last[..length]].concat();
+        let stream = [&item(0, 0, &[])[..], &last[..length]].concat();
         let output = oracle(&["stream", "--shifts"], &stream);
         assert_eq!(output.status.code(), Some(1), "{length}");
         assert_eq!(output.stdout, b"rounds 0 settled 0\n");
@@ -289,20 +226,17 @@ fn a_stream_that_ends_inside_a_shift() {
 #[test]
 fn shows_a_shift_of_a_stream() {
     let file = [&bad_round()[..], &round()[..16], &[255, 0]].concat();
-    let stream = [item([35, 35, 2], &round()[..16]), item([70, 69, 4], &file)];
-    let stream = stream.concat();
+    let stream = [item(35, 2, &round()[..16]), item(70, 4, &file)].concat();
     let shown = printed(&["show", "--stream", "--shifts", "0"], &stream);
     let zeros = " 0".repeat(35);
     let above = format!(
-        "# lent 35 amounts, 35 marks, 2 answers\n# rounds 1 settled 1\n\
-         # answer 16 1 amounts{zeros} lit{zeros}\n"
+        "# lent 35 amounts, 2 answers\n# rounds 1 settled 1\n# answer 16 1 amounts{zeros}\n"
     );
     let text = "table 5 100 base 2 lo 1 board 1 pocket 1\n";
     assert_eq!(shown, above + text);
     let shown = printed(&["show", "--stream", "--shifts", "1"], &stream);
-    let lent = "# lent 70 amounts, 69 marks, 4 answers\n";
-    let above = format!("{lent}# rounds 2 refused 2 at 14 kept\ntable ");
-    assert!(shown.starts_with(&above), "{shown}");
+    let above = "# lent 70 amounts, 4 answers\n# rounds 2 refused 2 at 14 kept\ntable ";
+    assert!(shown.starts_with(above), "{shown}");
     assert_eq!(oracle(&["pack"], shown.as_bytes()).stdout, file);
     let beyond = oracle(&["show", "--stream", "--shifts", "2"], &stream);
     assert_eq!(beyond.status.code(), Some(1));
@@ -324,12 +258,12 @@ fn generates_the_same_first_shifts_for_any_count() {
         let place = place.to_string();
         let shown = printed(&["show", "--stream", "--shifts", &place], &long);
         let lent = shown.lines().next().unwrap();
-        let lists = [2, 4, 6].map(|word| {
+        let [amounts, answers] = [2, 4].map(|word| {
             let number = lent.split(' ').nth(word).unwrap();
             number.parse().unwrap()
         });
         let file = oracle(&["pack"], shown.as_bytes()).stdout;
-        packed.extend(item(lists, &file));
+        packed.extend(item(amounts, answers, &file));
     }
     assert_eq!(packed, short);
 }
@@ -389,8 +323,8 @@ fn packs_and_shows() {
 fn helps() {
     let help = printed(&["--help"], &[]);
     for command in [
-        "settle", "lit", "sheet", "rewrite", "shift", "stream", "generate", "tally", "join",
-        "pack", "show", "handmade", "hold",
+        "settle", "rewrite", "shift", "stream", "generate", "tally", "join", "pack", "show",
+        "handmade", "hold",
     ] {
         assert!(help.contains(&format!("oracle {command}")));
         assert!(printed(&[command, "--help"], &[]).contains(command));
@@ -401,20 +335,13 @@ fn helps() {
         let first = command.split(' ').next().unwrap();
         assert!(printed(&[first, "--help"], &[]).contains(&with_shifts));
     }
-    let lit = "pool F P lit M1 ... M35";
-    for command in ["shift", "stream", "hold"] {
-        assert!(printed(&[command, "--help"], &[]).contains(lit));
-    }
-    let help = printed(&["stream", "--help"], &[]);
-    assert!(help.contains("answer N R amounts A1 ... A35 lit M1 ... M35\n"));
-    assert!(printed(&["generate", "--help"], &[]).contains("4096 marks"));
     assert!(printed(&["tally", "20", "1"], &[]).starts_with("files 20"));
     assert!(printed(&["tally", "--shifts", "20", "1"], &[]).starts_with("shifts 20"));
 }
 
 #[test]
 fn exit_statuses() {
-    let usages: [&[&str]; 27] = [
+    let usages: [&[&str]; 23] = [
         &[],
         &["deal"],
         &["deal", "--help"],
@@ -422,10 +349,6 @@ fn exit_statuses() {
         &["generate", "x", "1"],
         &["stream", "file"],
         &["settle", "--fast"],
-        &["lit", "--fast"],
-        &["lit", "one", "two"],
-        &["sheet", "--wide"],
-        &["sheet", "one", "two"],
         &["rewrite", "--sorted"],
         &["rewrite", "one", "two"],
         &["show", "--stream", "-1"],
@@ -447,8 +370,6 @@ fn exit_statuses() {
         assert_eq!(status(words, &[]), Some(2), "{words:?}");
     }
     assert_eq!(status(&["settle", "/nowhere/at/all"], &[]), Some(1));
-    assert_eq!(status(&["lit", "/nowhere/at/all"], &[]), Some(1));
-    assert_eq!(status(&["sheet", "/nowhere/at/all"], &[]), Some(1));
     assert_eq!(status(&["rewrite", "/nowhere/at/all"], &[]), Some(1));
     assert_eq!(status(&["shift", "/nowhere/at/all"], &[]), Some(1));
     assert_eq!(status(&["pack"], b"chair 1"), Some(1));

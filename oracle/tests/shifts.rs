@@ -1,4 +1,4 @@
-//! Shifts: request d of document 02, with the marks of request f.
+//! Shifts: request d of document 02.
 
 mod common;
 
@@ -12,69 +12,54 @@ use oracle::text::pack;
 
 /// 14 records. Seat 2 has a pair of twos at 5 on 50 dollars, though it folded.
 /// Seat 4 has two pair on 50 × (1 + 3 + 1 + 2) = 350 dollars at 3/2, and 50 on
-/// the board's pair of fours at 1. The board is 3s 4c 4d, and seat 4 holds 2s 3c:
-/// all but its two is lit. The Lo Ball wagers have no name.
+/// the board's pair of fours at 1.
 fn fours() -> Vec<u8> {
     pack(&ROUND.join("\n")).unwrap()
 }
 
-fn fours_paid() -> Results {
-    paid(&[
-        (2, [0, 0, 30_000, 0, 0], [0, 0, 48, 0, 0]),
-        (4, [87_500, 10_000, 0, 0, 0], [39, 6, 0, 0, 0]),
-    ])
+fn fours_paid() -> Vec<u64> {
+    paid(&[(2, [0, 0, 30_000, 0, 0]), (4, [87_500, 10_000, 0, 0, 0])])
 }
 
-/// The round of document 01: 13 records, and what request c makes of it. Hearts
-/// are lit, on the board and in the pocket of seat 1 too.
+/// The round of document 01: 13 records, and what request c makes of it.
 fn whole() -> Vec<u8> {
     pack(include_str!("round01.txt")).unwrap()
 }
 
-fn whole_paid() -> Results {
+fn whole_paid() -> Vec<u64> {
     paid(&[
-        (1, [2_183_300, 20_500, 10_500, 0, 0], [55, 7, 48, 0, 0]),
-        (2, [516_700, 0, 0, 0, 0], [55, 0, 0, 0, 0]),
+        (1, [2_183_300, 20_500, 10_500, 0, 0]),
+        (2, [516_700, 0, 0, 0, 0]),
     ])
 }
 
 /// 18 records. Seat 2: a royal flush on 20 × 10 dollars, 100,000 of which 25,000
 /// are paid; a straight flush on the board at 40; A-K suited at 20; 200,000 on
 /// 25. Seat 5 folded: queen high is a push; 200 on 40. Seat 7: a pair of nines,
-/// a push, on 10 × 5; the board; a pair at 4; 5 on 3. The board is Td Jd Qd, the
-/// All-Six card 9d. Of seat 5, with 8d 3c, the queen is lit, and all but the
-/// three; of seat 7 its nines, the board, its nines, and three nines.
+/// a push, on 10 × 5; the board; a pair at 4; 5 on 3.
 fn six() -> Vec<u8> {
     pack(include_str!("all_six.txt")).unwrap()
 }
 
-fn six_paid() -> Results {
+fn six_paid() -> Vec<u64> {
     paid(&[
-        (
-            2,
-            [2_520_000, 20_500, 21_000, 0, 500_002_500],
-            [55, 7, 48, 0, 63],
-        ),
-        (5, [0, 0, 0, 1_000, 804_000], [0, 0, 0, 4, 31]),
-        (7, [5_000, 4_100, 1_000, 0, 1_800], [48, 7, 48, 0, 56]),
+        (2, [2_520_000, 20_500, 21_000, 0, 500_002_500]),
+        (5, [0, 0, 0, 1_000, 804_000]),
+        (7, [5_000, 4_100, 1_000, 0, 1_800]),
     ])
 }
 
-/// A round's 35 amounts and 35 marks.
-type Results = (Vec<u64>, Vec<u8>);
-
-fn nothing() -> Results {
-    (vec![0; 35], vec![0; 35])
+fn nothing() -> Vec<u64> {
+    vec![0; 35]
 }
 
-/// A round's amounts and marks, where these seats have these.
-fn paid(seats: &[(usize, [u64; 5], [u8; 5])]) -> Results {
-    let (mut amounts, mut marks) = nothing();
-    for (seat, five, five_marks) in seats {
+/// A round's 35 amounts, where these seats have these.
+fn paid(seats: &[(usize, [u64; 5])]) -> Vec<u64> {
+    let mut amounts = nothing();
+    for (seat, five) in seats {
         amounts[5 * (seat - 1)..5 * seat].copy_from_slice(five);
-        marks[5 * (seat - 1)..5 * seat].copy_from_slice(five_marks);
     }
-    (amounts, marks)
+    amounts
 }
 
 /// One byte of one record takes a value.
@@ -90,48 +75,38 @@ fn record(bytes: &[u8]) -> Vec<u8> {
     record
 }
 
-/// Stand in each place before the call.
-const BEFORE: u64 = 1 << 63;
-const MARK_BEFORE: u8 = 170;
+const MARK: u64 = 1 << 63;
 
-/// The three lists that are lent: amounts, marks, answers.
-type Lists = (Vec<u64>, Vec<u8>, Vec<u64>);
-
-/// Lists of these lengths as they are before the call.
-fn lent([amounts, marks, answers]: [usize; 3]) -> Lists {
-    (
-        vec![BEFORE; amounts],
-        vec![MARK_BEFORE; marks],
-        vec![BEFORE; answers],
-    )
-}
-
-/// The lists of a shift that must be settled.
-fn settled(file: &[u8], rounds: usize) -> Lists {
-    let mut lists = lent([35 * rounds, 35 * rounds, 2 * rounds]);
-    let answer = settle_shift(file, &mut lists.0, &mut lists.1, &mut lists.2);
+/// Both lists of a shift that must be settled.
+fn settled(file: &[u8], rounds: usize) -> (Vec<u64>, Vec<u64>) {
+    let mut amounts = vec![MARK; 35 * rounds];
+    let mut answers = vec![MARK; 2 * rounds];
+    let answer = settle_shift(file, &mut amounts, &mut answers);
     assert_eq!(answer, ShiftAnswer::Settled { rounds });
-    lists
+    (amounts, answers)
 }
 
-/// A shift with these rounds is answered with these parts of the three lists.
-fn check(rounds: &[&[u8]], expected: &[(Results, [u64; 2])]) {
-    let (amounts, marks, answers) = settled(&rounds.concat(), expected.len());
-    for (place, ((round_amounts, round_marks), answer)) in expected.iter().enumerate() {
-        let results = 35 * place..35 * place + 35;
+/// A shift with these rounds is answered with these parts of the two lists.
+fn check(rounds: &[&[u8]], expected: &[(Vec<u64>, [u64; 2])]) {
+    let (amounts, answers) = settled(&rounds.concat(), expected.len());
+    for (place, (round_amounts, answer)) in expected.iter().enumerate() {
         assert_eq!(answers[2 * place..2 * place + 2], *answer, "round {place}");
-        assert_eq!(amounts[results.clone()], *round_amounts, "round {place}");
-        assert_eq!(marks[results], *round_marks, "round {place}");
+        assert_eq!(
+            amounts[35 * place..35 * place + 35],
+            *round_amounts,
+            "round {place}"
+        );
     }
 }
 
-/// A shift is refused with lists of these lengths, and all are unchanged.
-fn check_refused(file: &[u8], lengths: [usize; 3], number: u8, place: usize) {
-    let mut lists = lent(lengths);
-    let answer = settle_shift(file, &mut lists.0, &mut lists.1, &mut lists.2);
+/// A shift is refused with lists of these lengths, and both are unchanged.
+fn check_refused(file: &[u8], [amounts, answers]: [usize; 2], number: u8, place: usize) {
+    let mut lists = [vec![MARK; amounts], vec![MARK; answers]];
+    let [one, other] = &mut lists;
+    let answer = settle_shift(file, one, other);
     let refused = ShiftAnswer::Refused { number, place };
-    assert_eq!(answer, refused, "amounts, marks, answers {lengths:?}");
-    assert_eq!(lists, lent(lengths));
+    assert_eq!(answer, refused, "{amounts} amounts, {answers} answers");
+    assert_eq!(lists, [vec![MARK; amounts], vec![MARK; answers]]);
 }
 
 fn lengths(file: &[u8]) -> Vec<usize> {
@@ -224,8 +199,7 @@ const REFUSALS: [(u64, usize, usize, u8); 14] = [
     (15, 10, 1, 2),
 ];
 
-/// "A refused round spoils no other"; its "amounts are zeros", and its "marks are
-/// zeros".
+/// "A refused round spoils no other"; its "amounts are zeros".
 #[test]
 fn a_refused_round_among_settled_ones() {
     for (number, place, at, value) in REFUSALS {
@@ -399,43 +373,28 @@ fn refusal_2_comes_first() {
     for odd in 1..16 {
         for byte in [0, 1, 255] {
             let tailed = [&file[..], &vec![byte; odd]].concat();
-            for lists in [
-                [70, 70, 4],
-                [105, 105, 6],
-                [0, 0, 0],
-                [69, 70, 4],
-                [70, 69, 4],
-                [70, 70, 3],
-                [4, 4, 70],
-            ] {
+            for lists in [[70, 4], [105, 6], [0, 0], [69, 4], [70, 3], [4, 70]] {
                 check_refused(&tailed, lists, 2, 27);
             }
-            for lists in [[0, 0, 0], [35, 35, 2], [1, 0, 0], [0, 1, 0], [0, 0, 1]] {
+            for lists in [[0, 0], [35, 2], [1, 0], [0, 1]] {
                 check_refused(&vec![byte; odd], lists, 2, 0);
             }
             let bad = [&[0; 1600][..], &vec![byte; odd]].concat();
-            check_refused(&bad, [35, 35, 2], 2, 100);
+            check_refused(&bad, [35, 2], 2, 100);
         }
     }
 }
 
-/// "Then 1 if either list isn't exactly that long for the number of rounds", "1
-/// also for [the marks'] length": all lengths of amounts and answers with some of
-/// marks, and of marks and answers with some of amounts, but right ones, for each
-/// number of rounds.
+/// "Then 1 if either list isn't exactly that long for the number of rounds":
+/// all lengths but one pair, for each number of rounds.
 #[test]
 fn refusal_1_for_each_length() {
     let file = [whole(), fours(), six()].concat();
     for (count, records) in [(0, 0), (1, 13), (2, 27), (3, 45)] {
-        let right = 35 * count;
-        for one in 0..=142 {
-            for other in [0, 1, 28, 34, 35, 36, 69, 70, 71, 104, 105, 106, right] {
-                for answers in 0..=9 {
-                    for lists in [[one, other, answers], [other, one, answers]] {
-                        if lists != [right, right, 2 * count] {
-                            check_refused(&file[..16 * records], lists, 1, 0);
-                        }
-                    }
+        for amounts in 0..=142 {
+            for answers in 0..=9 {
+                if [amounts, answers] != [35 * count, 2 * count] {
+                    check_refused(&file[..16 * records], [amounts, answers], 1, 0);
                 }
             }
         }
@@ -447,18 +406,9 @@ fn refusal_1_for_each_length() {
 #[test]
 fn refusal_1_where_rounds_are_refused() {
     let file = [&fours()[..16], &[0; 16], &fours()[..32]].concat();
-    let zeros = (vec![0; 70], vec![0; 70], vec![3, 1, 16, 2]);
-    assert_eq!(settled(&file, 2), zeros);
-    for lists in [
-        [0, 70, 4],
-        [70, 0, 4],
-        [70, 70, 0],
-        [0, 0, 0],
-        [35, 35, 2],
-        [105, 105, 6],
-        [4, 70, 70],
-        [70, 4, 70],
-    ] {
+    let (amounts, answers) = settled(&file, 2);
+    assert_eq!((amounts, answers), (vec![0; 70], vec![3, 1, 16, 2]));
+    for lists in [[0, 4], [70, 0], [0, 0], [35, 2], [105, 6], [4, 70]] {
         check_refused(&file, lists, 1, 0);
     }
 }
@@ -467,17 +417,8 @@ fn refusal_1_where_rounds_are_refused() {
 #[test]
 fn the_empty_file() {
     assert_eq!((count_rounds(&[]), lengths(&[])), (0, vec![]));
-    assert_eq!(settled(&[], 0), (vec![], vec![], vec![]));
-    for lists in [
-        [1, 0, 0],
-        [0, 1, 0],
-        [0, 0, 1],
-        [35, 0, 0],
-        [0, 35, 0],
-        [0, 0, 2],
-        [35, 35, 2],
-        [2, 2, 35],
-    ] {
+    assert_eq!(settled(&[], 0), (vec![], vec![]));
+    for lists in [[1, 0], [0, 1], [35, 0], [0, 2], [35, 2], [2, 35]] {
         check_refused(&[], lists, 1, 0);
     }
 }
@@ -488,15 +429,15 @@ fn fewer_bytes_than_a_record() {
         for byte in [0, 1, 2] {
             let file = vec![byte; length];
             assert_eq!((count_rounds(&file), lengths(&file)), (0, vec![]));
-            check_refused(&file, [0; 3], 2, 0);
+            check_refused(&file, [0, 0], 2, 0);
         }
     }
 }
 
 /// What a round is answered in a call of its own.
-fn own(round: &[u8]) -> (Results, [u64; 2]) {
+fn own(round: &[u8]) -> (Vec<u64>, [u64; 2]) {
     match settle(round) {
-        Answer::Paid(paid) => ((paid.amounts.to_vec(), paid.marks.to_vec()), [0, 0]),
+        Answer::Paid(paid) => (paid.amounts.to_vec(), [0, 0]),
         Answer::Refused { number, place } => (nothing(), [number.into(), place as u64]),
     }
 }
@@ -518,19 +459,13 @@ fn joined_shifts_give_the_joined_lists() {
     let bad = with_byte(fours(), 2, 1, 2);
     let one = [&whole()[..], &bad, &[0; 16]].concat();
     let other = [&fours()[..48], &six()].concat();
-    let [first, second] = [&one, &other].map(|file| settled(file, 2));
-    assert_eq!([&first.2, &second.2], [&[0, 0, 7, 2], &[16, 3, 0, 0]]);
+    let (mut amounts, mut answers) = settled(&one, 2);
+    let (more_amounts, more_answers) = settled(&other, 2);
+    assert_eq!([&answers[..], &more_answers], [[0, 0, 7, 2], [16, 3, 0, 0]]);
+    amounts.extend(more_amounts);
+    answers.extend(more_answers);
     let joined = [one, other].concat();
-    assert_eq!(settled(&joined, 4), joined_lists(first, second));
-}
-
-/// The lists of one shift, each followed by that of another.
-fn joined_lists(one: Lists, other: Lists) -> Lists {
-    (
-        [one.0, other.0].concat(),
-        [one.1, other.1].concat(),
-        [one.2, other.2].concat(),
-    )
+    assert_eq!(settled(&joined, 4), (amounts, answers));
 }
 
 #[test]
@@ -541,8 +476,8 @@ fn generated_shifts_joined() {
     let mut joined = 0;
     for pair in files.windows(2).filter(|pair| pair[1].first() == Some(&1)) {
         let [one, other] = [&pair[0], &pair[1]].map(|file| settled(file, count_rounds(file)));
-        let lists = joined_lists(one, other);
-        assert_eq!(settled(&pair.concat(), lists.2.len() / 2), lists);
+        let lists = ([one.0, other.0].concat(), [one.1, other.1].concat());
+        assert_eq!(settled(&pair.concat(), lists.1.len() / 2), lists);
         joined += 1;
     }
     assert!(joined > 500, "{joined}");
@@ -551,17 +486,15 @@ fn generated_shifts_joined() {
 #[test]
 fn a_round_replaced_leaves_the_others() {
     let files: Vec<Vec<u8>> = single_rounds(5).take(30).collect();
-    let (amounts, marks, answers) = settled(&files.concat(), 30);
+    let (amounts, answers) = settled(&files.concat(), 30);
     let others = single_rounds(6).take(30);
     for (place, other) in others.enumerate() {
         let mut replaced = files.clone();
         replaced[place] = other;
-        let (new_amounts, new_marks, new_answers) = settled(&replaced.concat(), 30);
+        let (new_amounts, new_answers) = settled(&replaced.concat(), 30);
         let (from, to) = (35 * place, 35 * (place + 1));
         assert_eq!(new_amounts[..from], amounts[..from]);
         assert_eq!(new_amounts[to..], amounts[to..]);
-        assert_eq!(new_marks[..from], marks[..from]);
-        assert_eq!(new_marks[to..], marks[to..]);
         assert_eq!(new_answers[..2 * place], answers[..2 * place]);
         assert_eq!(new_answers[2 * place + 2..], answers[2 * place + 2..]);
     }
@@ -574,7 +507,6 @@ fn generated_shifts_keep_their_limits() {
         for place in 0..3_000 {
             let item = generator.make(place);
             assert!(item.amounts <= 4_096, "{seed} {place}");
-            assert!(item.marks <= 4_096, "{seed} {place}");
             assert!(item.answers <= 256, "{seed} {place}");
             assert!(item.file.len() <= 65_535, "{seed} {place}");
             assert!(count_rounds(&item.file) <= 40, "{seed} {place}");
@@ -609,12 +541,11 @@ fn everything_comes_often_in_the_first_shifts() {
         (&tally.unfinished, 250),
         (&tally.unfinished_lengths, 15),
         (&tally.strays, 10),
-        (&tally.refused_1, 50),
-        (&tally.lists, 5),
-        (&tally.empty_lists, 10),
+        (&tally.lists, 20),
+        (&tally.empty_lists, 15),
         (&tally.tails, 20),
         (&tally.odd, 40),
-        (&tally.odd_lists, 20),
+        (&tally.odd_lists, 60),
     ];
     assert_eq!(floors.len(), tally.sections().len());
     for (section, least) in floors {
@@ -649,9 +580,9 @@ fn odd_bytes_come_with_right_and_wrong_lists() {
     let mut counts = [[0; 2]; 2];
     for item in (0..3_000).map(|place| generator.make(place)) {
         let rounds = count_rounds(&item.file);
-        let lent = [item.amounts, item.marks, item.answers].map(usize::from);
+        let lent = [item.amounts, item.answers].map(usize::from);
         if item.file.len() % 16 != 0 {
-            let right = lent == [35 * rounds, 35 * rounds, 2 * rounds];
+            let right = lent == [35 * rounds, 2 * rounds];
             counts[usize::from(rounds > 0)][usize::from(right)] += 1;
         }
     }

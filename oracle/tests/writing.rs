@@ -398,10 +398,7 @@ fn lines_of_held_rounds() {
     let finished = line(18, &came[..16]);
     let choices = "040101 0403 040603 040702 040102 040601 0407 040103 0406";
     assert!(finished.starts_with("take refused 3 settle paid "));
-    // Queens on the board: seat 1 has a full house and a pair of aces, seats 6
-    // and 7 folded with the board, seat 7 with a pair of kings too.
-    let lit = format!("55 0 48 0 0{} 0 7 0 0 0 0 7 48 0 0", " 0".repeat(20));
-    let end = format!(" pool 0 0 lit {lit} write {table} {seats} {deck} {choices}\n");
+    let end = format!(" pool 0 0 write {table} {seats} {deck} {choices}\n");
     assert!(finished.ends_with(&end), "{finished}");
 }
 

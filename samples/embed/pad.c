@@ -73,10 +73,8 @@ static unsigned settle(const struct pad *pad)
     if (number != 0)
         return number;
     uint64_t results[RIPPLEHATCH_RESULTS] = {0}, full = 0, paid = 0;
-    uint8_t marks[RIPPLEHATCH_RESULTS] = {0};
     size_t place = 0;
-    number = ripplehatch_settle_file(
-        file, pad->bytes, results, RIPPLEHATCH_RESULTS, marks, RIPPLEHATCH_RESULTS, &full, &paid, &place);
+    number = ripplehatch_settle_file(file, pad->bytes, results, RIPPLEHATCH_RESULTS, &full, &paid, &place);
     if (number != 0)
         return number;
     print_seats(file, pad->bytes, results);

@@ -63,7 +63,6 @@ fn settle(pad: &Pad) -> Result<String, u8> {
             amounts,
             full,
             paid,
-            ..
         } => Ok(seat_lines(&file, &amounts) + &format!("pool {full} {paid}\n")),
         Answer::Refused { number, .. } => Err(number),
     }

@@ -16,7 +16,7 @@
 extern "C" {
 #endif
 
-/* How long a results list is: seats 1 to 7, five amounts each, in cents, in the order base, Board, Pocket, Lo Ball, All-Six. The list of marks is as long. */
+/* How long a results list is: seats 1 to 7, five amounts each, in cents, in the order base, Board, Pocket, Lo Ball, All-Six. */
 #define RIPPLEHATCH_RESULTS 35
 
 /* How many amounts a seat has. */
@@ -24,16 +24,6 @@ extern "C" {
 
 /* How many numbers a round of a shift has in the list of answers: its refusal's number and place. */
 #define RIPPLEHATCH_ANSWER 2
-
-/* What a mark is the sum of: the community cards lit, the All-Six card, the seat's two. It is 0 where no wager was placed, or the base was folded. */
-enum {
-    RIPPLEHATCH_FIRST_COMMUNITY = 1,
-    RIPPLEHATCH_SECOND_COMMUNITY = 2,
-    RIPPLEHATCH_THIRD_COMMUNITY = 4,
-    RIPPLEHATCH_ALL_SIX_CARD = 8,
-    RIPPLEHATCH_FIRST_OWN = 16,
-    RIPPLEHATCH_SECOND_OWN = 32
-};
 
 /* How long a record is, in bytes. */
 #define RIPPLEHATCH_RECORD 16
@@ -49,7 +39,7 @@ enum {
  * before 20. */
 enum {
     RIPPLEHATCH_SETTLED = 0,       /* no refusal */
-    RIPPLEHATCH_LIST_LENGTH = 1,   /* the results list or that of the marks isn't 35 long, a list isn't as long as the shift's rounds need, or the room to write into isn't as long as the held file */
+    RIPPLEHATCH_LIST_LENGTH = 1,   /* the results list isn't 35 long, a list isn't as long as the shift's rounds need, or the room to write into isn't as long as the held file */
     RIPPLEHATCH_ODD_BYTES = 2,     /* the file's length isn't a multiple of 16, or the record that is handed over isn't 16 bytes */
     RIPPLEHATCH_KIND = 3,          /* a record of this kind can't come here */
     RIPPLEHATCH_NOT_ZERO = 4,      /* a byte that must be zero isn't */
@@ -71,10 +61,10 @@ enum {
     RIPPLEHATCH_SHARE_LIMIT = 20   /* a win is above 500,000, or the maximum above 75,000 */
 };
 
-/* Settles a round file. Answers 0 where it is settled: amounts then holds what each seat is owed, marks at the same places which cards are lit for it, *full and *paid the
- * pool in dollars, full and as paid. Else answers the refusal's number, and *place is the place of the refused record, from 0. What is not told is left as it was. */
+/* Settles a round file. Answers 0 where it is settled: results then holds what each seat is owed, *full and *paid the pool in dollars, full and as paid.
+ * Else answers the refusal's number, and *place is the place of the refused record, from 0. What is not told is left as it was. */
 uint8_t ripplehatch_settle_file(
-    const uint8_t *file, size_t bytes, uint64_t *amounts, size_t amounts_room, uint8_t *marks, size_t marks_room, uint64_t *full, uint64_t *paid, size_t *place);
+    const uint8_t *file, size_t bytes, uint64_t *results, size_t room, uint64_t *full, uint64_t *paid, size_t *place);
 
 /* The refused record as a part of the file: answers the byte at which it begins, and *length is how many bytes it has. These are 16 bytes; for refusal
  * 2 the odd bytes at the end; for 16, or no refusal, none, at the end. */
@@ -83,13 +73,12 @@ size_t ripplehatch_refused_part(const uint8_t *file, size_t bytes, size_t *lengt
 /* How many rounds a shift has: rounds joined end to end, where record 0 starts a round, and so does every later record of kind 1. Odd bytes at the end are in none. */
 size_t ripplehatch_count_rounds(const uint8_t *file, size_t bytes);
 
-/* Settles a shift, each round as ripplehatch_settle_file would settle it alone. amounts and marks have 35 numbers for each round, answers two. Answers 0 where the shift is
- * settled, whatever its rounds are: *rounds is how many it has, amounts holds what each seat is owed, round after round, marks which cards are lit, and answers for each round 0 and 0,
- * or its refusal's number and the place of the refused record within the round; such a round's amounts and marks are zeros, and it spoils no other. Else answers 2 or 1, *place is its
- * place, the count of whole records or 0, and no list is written. What is not told is left as it was. */
+/* Settles a shift, each round as ripplehatch_settle_file would settle it alone. amounts has 35 numbers for each round, answers two. Answers 0 where the shift is settled, whatever its
+ * rounds are: *rounds is how many it has, amounts holds what each seat is owed, round after round, and answers for each round 0 and 0, or its refusal's number and the place of the
+ * refused record within the round; such a round's amounts are zeros, and it spoils no other. Else answers 2 or 1, *place is its place, the count of whole records or 0, and
+ * neither list is written. What is not told is left as it was. */
 uint8_t ripplehatch_settle_shift(
-    const uint8_t *file, size_t bytes, uint64_t *amounts, size_t amounts_room, uint8_t *marks, size_t marks_room, uint64_t *answers, size_t answers_room,
-    size_t *rounds, size_t *place);
+    const uint8_t *file, size_t bytes, uint64_t *amounts, size_t amounts_room, uint64_t *answers, size_t answers_room, size_t *rounds, size_t *place);
 
 /* Answers one record to a round that is held as the file of it: the accepted records, one after the other. The empty file is the fresh round.
  * Answers 0 where the record is accepted: *finished is then 1 where the round is finished, 0 where the next record is awaited, and the caller puts the 16 bytes
@@ -101,17 +90,15 @@ uint8_t ripplehatch_take(const uint8_t *held, size_t held_bytes, const uint8_t *
  * apart from the held file, and exactly as long. Answers 0, and room holds the file; else answers 17, 16 or 1, and room is left as it was. */
 uint8_t ripplehatch_write(const uint8_t *held, size_t held_bytes, uint8_t *room, size_t room_bytes);
 
-/* Names five cards. Answers 0, and *name is the place of the name in the list of names, from 0, a royal flush, to 10, other, and *lit the cards that make it: 1, 2, 4, .. for the
- * first, second, third card, added up. Else answers 18 or 11. */
-uint8_t ripplehatch_name_five(const uint8_t *cards, size_t count, size_t *name, uint8_t *lit);
+/* Names five cards. Answers 0, and *name is the place of the name in the list of names, from 0, a royal flush, to 10, other. Else answers 18 or 11. */
+uint8_t ripplehatch_name_five(const uint8_t *cards, size_t count, size_t *name);
 
-/* Names five cards for Lo Ball. Answers 0, and *high is the highest rank, from 0, a two, to 12, an ace, or RIPPLEHATCH_LO_NOTHING, and *lit the card that makes it. Else answers
- * 18 or 11. */
-uint8_t ripplehatch_name_lo(const uint8_t *cards, size_t count, size_t *high, uint8_t *lit);
+/* Names five cards for Lo Ball. Answers 0, and *high is the highest rank, from 0, a two, to 12, an ace, or RIPPLEHATCH_LO_NOTHING. Else answers 18 or 11. */
+uint8_t ripplehatch_name_lo(const uint8_t *cards, size_t count, size_t *high);
 
 /* Names six cards for All-Six. Answers 0, and *name is the place of the name: 0, nine to ace of diamonds; 1, nine to ace of another suit; from 2, a royal flush, to 12,
- * other, what the best five of the six are called, and *lit the cards that make it. Else answers 18 or 11. */
-uint8_t ripplehatch_name_six(const uint8_t *cards, size_t count, size_t *name, uint8_t *lit);
+ * other, what the best five of the six are called. Else answers 18 or 11. */
+uint8_t ripplehatch_name_six(const uint8_t *cards, size_t count, size_t *name);
 
 /* Shares a maximum among up to seven wins, in dollars. Answers 0, and shares holds the share of each win: all in full where they are within the maximum, and
    otherwise what comes to exactly the maximum. A refusal, 19 or 20, leaves it as it was. */

@@ -4,7 +4,7 @@
 //! that the library asks of a caller, so nothing here can be used wrongly.
 #![allow(dead_code)]
 
-/// How long a results list is: seats 1 to 7, five amounts each, in cents, in the order base, Board, Pocket, Lo Ball, All-Six. The list of marks is as long.
+/// How long a results list is: seats 1 to 7, five amounts each, in cents, in the order base, Board, Pocket, Lo Ball, All-Six.
 pub const RESULTS: usize = 35;
 
 /// How many amounts a seat has.
@@ -26,10 +26,8 @@ extern "C" {
     fn ripplehatch_settle_file(
         file: *const u8,
         bytes: usize,
-        amounts: *mut u64,
-        amounts_room: usize,
-        marks: *mut u8,
-        marks_room: usize,
+        results: *mut u64,
+        room: usize,
         full: &mut u64,
         paid: &mut u64,
         place: &mut usize,
@@ -41,8 +39,6 @@ extern "C" {
         bytes: usize,
         amounts: *mut u64,
         amounts_room: usize,
-        marks: *mut u8,
-        marks_room: usize,
         answers: *mut u64,
         answers_room: usize,
         rounds: &mut usize,
@@ -61,14 +57,9 @@ extern "C" {
         room: *mut u8,
         room_bytes: usize,
     ) -> u8;
-    fn ripplehatch_name_five(
-        cards: *const u8,
-        count: usize,
-        name: &mut usize,
-        lit: &mut u8,
-    ) -> u8;
-    fn ripplehatch_name_lo(cards: *const u8, count: usize, high: &mut usize, lit: &mut u8) -> u8;
-    fn ripplehatch_name_six(cards: *const u8, count: usize, name: &mut usize, lit: &mut u8) -> u8;
+    fn ripplehatch_name_five(cards: *const u8, count: usize, name: &mut usize) -> u8;
+    fn ripplehatch_name_lo(cards: *const u8, count: usize, high: &mut usize) -> u8;
+    fn ripplehatch_name_six(cards: *const u8, count: usize, name: &mut usize) -> u8;
     fn ripplehatch_share(
         wins: *const u64,
         count: usize,
@@ -81,11 +72,9 @@ extern "C" {
 #[derive(Clone, Copy, Debug, PartialEq, Eq)]
 #[allow(clippy::large_enum_variant)]
 pub enum Answer {
-    /// What each seat is owed; at the same places the cards lit, the sum of 1, 2, 4 for the community cards, 8 for the All-Six card, 16 and 32 for the seat's two; and the
-    /// pool in dollars, full and as paid.
+    /// What each seat is owed, and the pool in dollars, full and as paid.
     Paid {
         amounts: [u64; RESULTS],
-        marks: [u8; RESULTS],
         full: u64,
         paid: u64,
     },
@@ -96,7 +85,6 @@ pub enum Answer {
 /// Settles a round file.
 pub fn settle(file: &[u8]) -> Answer {
     let mut amounts = [0; RESULTS];
-    let mut marks = [0; RESULTS];
     let (mut full, mut paid, mut place) = (0, 0, 0);
     let number = unsafe {
         ripplehatch_settle_file(
@@ -104,8 +92,6 @@ pub fn settle(file: &[u8]) -> Answer {
             file.len(),
             amounts.as_mut_ptr(),
             amounts.len(),
-            marks.as_mut_ptr(),
-            marks.len(),
             &mut full,
             &mut paid,
             &mut place,
@@ -114,7 +100,6 @@ pub fn settle(file: &[u8]) -> Answer {
     match number {
         0 => Answer::Paid {
             amounts,
-            marks,
             full,
             paid,
         },
@@ -136,20 +121,15 @@ pub fn count_rounds(file: &[u8]) -> usize {
 
 #[derive(Clone, Copy, Debug, PartialEq, Eq)]
 pub enum ShiftAnswer {
-    /// How many rounds the shift has. The lists hold what each of them gives.
+    /// How many rounds the shift has. Both lists hold what each of them gives.
     Settled { rounds: usize },
-    /// 2, with the count of whole records as its place, or 1, at place 0; the lists are as they were.
+    /// 2, with the count of whole records as its place, or 1, at place 0; both lists are as they were.
     Refused { number: u8, place: usize },
 }
 
-/// Settles a shift, each round as `settle` would settle it alone. `amounts` and `marks` have `RESULTS` numbers for each round, and `answers` has `ANSWER`: 0 and 0, or the
-/// round's refusal and the place of the refused record within the round. Such a round's amounts and marks are zeros, and it spoils no other.
-pub fn settle_shift(
-    file: &[u8],
-    amounts: &mut [u64],
-    marks: &mut [u8],
-    answers: &mut [u64],
-) -> ShiftAnswer {
+/// Settles a shift, each round as `settle` would settle it alone. `amounts` has `RESULTS` numbers for each round, and `answers` has `ANSWER`: 0 and 0, or the round's
+/// refusal and the place of the refused record within the round. Such a round's amounts are zeros, and it spoils no other.
+pub fn settle_shift(file: &[u8], amounts: &mut [u64], answers: &mut [u64]) -> ShiftAnswer {
     let (mut rounds, mut place) = (0, 0);
     let number = unsafe {
         ripplehatch_settle_shift(
@@ -157,8 +137,6 @@ pub fn settle_shift(
             file.len(),
             amounts.as_mut_ptr(),
             amounts.len(),
-            marks.as_mut_ptr(),
-            marks.len(),
             answers.as_mut_ptr(),
             answers.len(),
             &mut rounds,
@@ -210,32 +188,30 @@ pub fn write(held: &[u8], room: &mut [u8]) -> Result<(), u8> {
     }
 }
 
-/// The place of the five cards' name in the list of names, 0 for a royal flush to 10 for other, and the cards that make it, 1, 2, 4, .. for the first, second, third card,
-/// added up; or the refusal, 18 or 11.
-pub fn name_five(cards: &[u8]) -> Result<(usize, u8), u8> {
-    let (mut name, mut lit) = (0, 0);
-    match unsafe { ripplehatch_name_five(cards.as_ptr(), cards.len(), &mut name, &mut lit) } {
-        0 => Ok((name, lit)),
+/// The place of the five cards' name in the list of names, 0 for a royal flush to 10 for other; or the refusal, 18 or 11.
+pub fn name_five(cards: &[u8]) -> Result<usize, u8> {
+    let mut name = 0;
+    match unsafe { ripplehatch_name_five(cards.as_ptr(), cards.len(), &mut name) } {
+        0 => Ok(name),
         number => Err(number),
     }
 }
 
-/// The five cards' highest rank for Lo Ball, 0 for a two to 12 for an ace, or None for nothing, and the card that makes it; or the refusal, 18 or 11.
-pub fn name_lo(cards: &[u8]) -> Result<(Option<usize>, u8), u8> {
-    let (mut high, mut lit) = (0, 0);
-    match unsafe { ripplehatch_name_lo(cards.as_ptr(), cards.len(), &mut high, &mut lit) } {
-        0 if high == LO_NOTHING => Ok((None, lit)),
-        0 => Ok((Some(high), lit)),
+/// The five cards' highest rank for Lo Ball, 0 for a two to 12 for an ace, or None for nothing; or the refusal, 18 or 11.
+pub fn name_lo(cards: &[u8]) -> Result<Option<usize>, u8> {
+    let mut high = 0;
+    match unsafe { ripplehatch_name_lo(cards.as_ptr(), cards.len(), &mut high) } {
+        0 => Ok(Some(high).filter(|&rank| rank != LO_NOTHING)),
         number => Err(number),
     }
 }
 
-/// The place of the six cards' name for All-Six, 0 for nine to ace of diamonds, 1 for nine to ace of another suit, 2 for a royal flush to 12 for other, and the cards that
-/// make it; or the refusal, 18 or 11.
-pub fn name_six(cards: &[u8]) -> Result<(usize, u8), u8> {
-    let (mut name, mut lit) = (0, 0);
-    match unsafe { ripplehatch_name_six(cards.as_ptr(), cards.len(), &mut name, &mut lit) } {
-        0 => Ok((name, lit)),
+/// The place of the six cards' name for All-Six: 0 for nine to ace of diamonds, 1 for nine to ace of another suit, and from 2, a royal flush, to 12, other, what the
+/// best five of the six are called; or the refusal, 18 or 11.
+pub fn name_six(cards: &[u8]) -> Result<usize, u8> {
+    let mut name = 0;
+    match unsafe { ripplehatch_name_six(cards.as_ptr(), cards.len(), &mut name) } {
+        0 => Ok(name),
         number => Err(number),
     }
 }

@@ -1,6 +1,6 @@
 /* Settles the round file that is named, and prints what the program settle prints: what a pad in C does with the library.
  *
- * The cards that are lit, which is what a dealer's screen shows, go to standard error as the program lit prints them, and so does a refused record, as bytes. Status: 0 paid, 1 refused, 2 a fault of the call, of reading or of writing.
+ * The refused record, which is what a dealer is shown, goes to standard error as bytes. Status: 0 paid, 1 refused, 2 a fault of the call, of reading or of writing.
  */
 #include "ripplehatch.h"
 #include <stdio.h>
@@ -18,20 +18,6 @@ static void print_seats(const uint8_t *file, size_t bytes, const uint64_t *resul
         for (int i = 0; i < RIPPLEHATCH_SEAT_WAGERS; i++)
             printf(" %llu", (unsigned long long)amounts[i]);
         printf("\n");
-    }
-}
-
-static void print_lit(const uint8_t *file, size_t bytes, const uint8_t *marks)
-{
-    for (size_t at = 0; at + RECORD <= bytes; at += RECORD) {
-        if (file[at] != SEAT)
-            continue;
-        unsigned seat = file[at + 1];
-        const uint8_t *lit = marks + RIPPLEHATCH_SEAT_WAGERS * (seat - 1);
-        fprintf(stderr, "%u", seat);
-        for (int i = 0; i < RIPPLEHATCH_SEAT_WAGERS; i++)
-            fprintf(stderr, " %u", lit[i]);
-        fprintf(stderr, "\n");
     }
 }
 
@@ -67,13 +53,10 @@ int main(int words, char **word)
     }
 
     uint64_t results[RIPPLEHATCH_RESULTS] = {0}, full = 0, paid = 0;
-    uint8_t marks[RIPPLEHATCH_RESULTS] = {0};
     size_t place = 0;
-    unsigned number = ripplehatch_settle_file(
-        file, bytes, results, RIPPLEHATCH_RESULTS, marks, RIPPLEHATCH_RESULTS, &full, &paid, &place);
+    unsigned number = ripplehatch_settle_file(file, bytes, results, RIPPLEHATCH_RESULTS, &full, &paid, &place);
     if (number == RIPPLEHATCH_SETTLED) {
         print_seats(file, bytes, results);
-        print_lit(file, bytes, marks);
         printf("pool %llu %llu\n", (unsigned long long)full, (unsigned long long)paid);
     } else {
         printf("refused %u at %zu\n", number, place);

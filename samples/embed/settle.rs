@@ -1,23 +1,21 @@
 //! Settles the round file that is named, and prints what the program `settle` prints: what a pad in Rust does with the library.
 //!
-//! The cards that are lit, which is what a dealer's screen shows, go to standard error as the program `lit` prints them, and so does a refused record, as bytes. Status: 0
-//! paid, 1 refused, 2 a fault of the call, of reading or of writing.
+//! The refused record, which is what a dealer is shown, goes to standard error as bytes. Status: 0 paid, 1 refused, 2 a fault of the call, of reading or of
+//! writing.
 
 mod ripplehatch;
 
 use ripplehatch::{Answer, SEAT_WAGERS};
-use std::fmt::Display;
 use std::io::Write;
 use std::process::ExitCode;
 
-/// Each playing seat's number, and its five numbers of a list.
-fn seat_lines<N: Display>(file: &[u8], list: &[N]) -> String {
+fn seat_lines(file: &[u8], amounts: &[u64]) -> String {
     let mut lines = String::new();
     for record in file.chunks_exact(16).filter(|record| record[0] == 2) {
         let seat = record[1] as usize;
         lines += &seat.to_string();
-        for number in &list[SEAT_WAGERS * (seat - 1)..SEAT_WAGERS * seat] {
-            lines += &format!(" {number}");
+        for amount in &amounts[SEAT_WAGERS * (seat - 1)..SEAT_WAGERS * seat] {
+            lines += &format!(" {amount}");
         }
         lines += "\n";
     }
@@ -48,16 +46,12 @@ fn main() -> ExitCode {
     let (text, status) = match answer {
         Answer::Paid {
             amounts,
-            marks,
             full,
             paid,
-        } => {
-            eprint!("{}", seat_lines(&file, &marks));
-            (
-                seat_lines(&file, &amounts) + &format!("pool {full} {paid}\n"),
-                0,
-            )
-        }
+        } => (
+            seat_lines(&file, &amounts) + &format!("pool {full} {paid}\n"),
+            0,
+        ),
         Answer::Refused { number, place } => {
             print_part(ripplehatch::refused_part(&file));
             (format!("refused {number} at {place}\n"), 1)

@@ -1,6 +1,6 @@
 /* Settles the shift that is named, and prints each round's answer, then what each seat is owed over the shift: what a back office in C does with the library.
  *
- * It holds the file and the three lists, and nothing else that grows with the shift. Status: 0 settled, whatever its rounds are, 1 refused, 2 a fault of the call, of
+ * It holds the file and the two lists, and nothing else that grows with the shift. Status: 0 settled, whatever its rounds are, 1 refused, 2 a fault of the call, of
  * reading or of writing, or where there is no memory for it.
  */
 #include "ripplehatch.h"
@@ -61,12 +61,11 @@ int main(int words, char **word)
     size_t rounds = ripplehatch_count_rounds(file, bytes);
     size_t paid = RIPPLEHATCH_RESULTS * rounds, told = RIPPLEHATCH_ANSWER * rounds;
     uint64_t *amounts = calloc(paid + 1, sizeof *amounts), *answers = calloc(told + 1, sizeof *answers);
-    uint8_t *marks = calloc(paid + 1, sizeof *marks);
-    if (amounts == NULL || marks == NULL || answers == NULL) {
+    if (amounts == NULL || answers == NULL) {
         fprintf(stderr, "shift: no memory for the lists of %zu rounds\n", rounds);
         return 2;
     }
-    unsigned number = ripplehatch_settle_shift(file, bytes, amounts, paid, marks, paid, answers, told, &rounds, &place);
+    unsigned number = ripplehatch_settle_shift(file, bytes, amounts, paid, answers, told, &rounds, &place);
     if (number == RIPPLEHATCH_SETTLED) {
         print_rounds(answers, rounds);
         print_seats(amounts, rounds);
@@ -75,7 +74,6 @@ int main(int words, char **word)
     }
     free(file);
     free(amounts);
-    free(marks);
     free(answers);
     if (fflush(stdout) != 0) {
         fprintf(stderr, "shift: cannot write to standard output\n");

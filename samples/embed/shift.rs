@@ -1,6 +1,6 @@
 //! Settles the shift that is named, and prints each round's answer, then what each seat is owed over the shift: what a back office in Rust does with the library.
 //!
-//! It holds the file and the three lists, and nothing else that grows with the shift. Status: 0 settled, whatever its rounds are, 1 refused, 2 a fault of the call, of
+//! It holds the file and the two lists, and nothing else that grows with the shift. Status: 0 settled, whatever its rounds are, 1 refused, 2 a fault of the call, of
 //! reading or of writing.
 
 mod ripplehatch;
@@ -35,10 +35,9 @@ fn print_seats(out: &mut impl Write, amounts: &[u64]) -> std::io::Result<()> {
 fn print(file: &[u8]) -> std::io::Result<u8> {
     let rounds = ripplehatch::count_rounds(file);
     let mut amounts = vec![0; RESULTS * rounds];
-    let mut marks = vec![0; RESULTS * rounds];
     let mut answers = vec![0; ANSWER * rounds];
     let mut out = BufWriter::new(std::io::stdout().lock());
-    let status = match ripplehatch::settle_shift(file, &mut amounts, &mut marks, &mut answers) {
+    let status = match ripplehatch::settle_shift(file, &mut amounts, &mut answers) {
         ShiftAnswer::Settled { .. } => {
             print_rounds(&mut out, &answers)?;
             print_seats(&mut out, &amounts)?;

@@ -5,8 +5,7 @@
 use crate::draws::Draws;
 use crate::proved;
 use crate::work::Work;
-use oracle::lit;
-use oracle::names::{LoBallName, SixName};
+use oracle::names::{self, LoBallName, SixName};
 use std::hint::black_box;
 use std::rc::Rc;
 
@@ -36,34 +35,18 @@ fn naming_six(name: &'static str, hands: &Hands<6>) -> Result<Work, String> {
         name,
         hands,
         proved::name_six,
-        lit::light_six,
-        |(name, lit)| (SixName::place(name), number(lit)),
+        names::name_six,
+        SixName::place,
     )
 }
 
 fn naming_five(name: &'static str, hands: &Hands<5>) -> Result<Work, String> {
-    naming(
-        name,
-        hands,
-        proved::name_five,
-        lit::light_five,
-        |(name, lit)| (name as usize, number(lit)),
-    )
+    let said = |name| name as usize;
+    naming(name, hands, proved::name_five, names::name_five, said)
 }
 
 fn naming_lo(name: &'static str, hands: &Hands<5>) -> Result<Work, String> {
-    naming(
-        name,
-        hands,
-        proved::name_lo,
-        lit::light_lo_ball,
-        |(name, lit)| (high_rank(name), number(lit)),
-    )
-}
-
-/// The lit cards as the library says them: 1, 2, 4, .. for the first, second, third.
-fn number<const N: usize>(lit: [bool; N]) -> u8 {
-    (0..N).map(|place| u8::from(lit[place]) << place).sum()
+    naming(name, hands, proved::name_lo, names::name_lo_ball, high_rank)
 }
 
 /// A name that oracle/ gives, as the library says it. Its names begin with 7 high, and a seven's rank is 5.

@@ -11,21 +11,18 @@ extern "C" {
     fn ripplehatch_settle_file(
         file: *const u8,
         bytes: usize,
-        amounts: *mut u64,
-        amounts_room: usize,
-        marks: *mut u8,
-        marks_room: usize,
+        results: *mut u64,
+        room: usize,
         full: &mut u64,
         paid: &mut u64,
         place: &mut usize,
     ) -> u8;
 }
 
-/// The three lists that a shift is lent.
+/// The two lists that a shift is lent.
 #[derive(PartialEq)]
 struct Lists {
     amounts: Vec<u64>,
-    marks: Vec<u8>,
     answers: Vec<u64>,
 }
 
@@ -34,7 +31,6 @@ impl Lists {
     fn of(rounds: usize) -> Lists {
         Lists {
             amounts: vec![9; RESULTS * rounds],
-            marks: vec![9; RESULTS * rounds],
             answers: vec![9; ANSWER * rounds],
         }
     }
@@ -45,15 +41,10 @@ pub fn settling(file: Vec<u8>) -> Result<(Work, Work), String> {
     let rounds = proved::count_rounds(&file);
     let (mut ours, mut theirs) = (Lists::of(rounds), Lists::of(rounds));
     let settled = ShiftAnswer::Settled { rounds };
-    if settle_shift(&file, &mut ours) != settled {
+    if proved::settle_shift(&file, &mut ours.amounts, &mut ours.answers) != settled {
         return Err("the proved settler refuses the shift".to_string());
     }
-    shift::settle_shift(
-        &file,
-        &mut theirs.amounts,
-        &mut theirs.marks,
-        &mut theirs.answers,
-    );
+    shift::settle_shift(&file, &mut theirs.amounts, &mut theirs.answers);
     if ours != theirs {
         return Err("the settlers differ in the shift".to_string());
     }
@@ -73,46 +64,38 @@ pub fn settling(file: Vec<u8>) -> Result<(Work, Work), String> {
 fn at_once(file: &Rc<Vec<u8>>, lists: &Rc<RefCell<Lists>>) -> Box<dyn Fn()> {
     let (file, lists) = (Rc::clone(file), Rc::clone(lists));
     Box::new(move || {
-        black_box(settle_shift(black_box(&file), &mut lists.borrow_mut()));
+        let lists = &mut *lists.borrow_mut();
+        black_box(proved::settle_shift(
+            black_box(&file),
+            &mut lists.amounts,
+            &mut lists.answers,
+        ));
     })
 }
 
-fn settle_shift(file: &[u8], lists: &mut Lists) -> ShiftAnswer {
-    proved::settle_shift(
-        file,
-        &mut lists.amounts,
-        &mut lists.marks,
-        &mut lists.answers,
-    )
-}
-
-/// Each round by the library's function for one file, into the same lists.
+/// Each round by the library's function for one file, into the same list.
 fn one_by_one(file: &Rc<Vec<u8>>, lists: &Rc<RefCell<Lists>>) -> Box<dyn Fn()> {
     let (file, lists) = (Rc::clone(file), Rc::clone(lists));
     let lengths: Vec<usize> = shift::rounds(&file).map(<[u8]>::len).collect();
     Box::new(move || {
-        let lists = &mut *lists.borrow_mut();
-        let amounts = lists.amounts.chunks_exact_mut(RESULTS);
-        let marks = lists.marks.chunks_exact_mut(RESULTS);
+        let amounts = &mut lists.borrow_mut().amounts;
         let mut rest = black_box(&file[..]);
-        for ((long, amounts), marks) in lengths.iter().zip(amounts).zip(marks) {
+        for (long, results) in lengths.iter().zip(amounts.chunks_exact_mut(RESULTS)) {
             let (round, after) = rest.split_at(*long);
-            settle_into(round, amounts, marks);
+            settle_into(round, results);
             rest = after;
         }
     })
 }
 
-fn settle_into(file: &[u8], amounts: &mut [u64], marks: &mut [u8]) {
+fn settle_into(file: &[u8], results: &mut [u64]) {
     let (mut full, mut paid, mut place) = (0, 0, 0);
     black_box(unsafe {
         ripplehatch_settle_file(
             file.as_ptr(),
             file.len(),
-            amounts.as_mut_ptr(),
-            amounts.len(),
-            marks.as_mut_ptr(),
-            marks.len(),
+            results.as_mut_ptr(),
+            results.len(),
             &mut full,
             &mut paid,
             &mut place,

@@ -68,7 +68,6 @@ fn theirs(file: &[u8]) -> Answer {
     match settle::settle(file) {
         settle::Answer::Paid(settled) => Answer::Paid {
             amounts: settled.amounts,
-            marks: settled.marks,
             full: settled.full,
             paid: settled.paid,
         },

@@ -24,6 +24,7 @@ use Rattle.reading.proofs.Readings.{leads_whole, joined_read, read_count, read_e
 use Rattle.writing.specs.Write.{file_of, write_answer, write_list, write_number}
 use Rattle.writing.proofs.Files.{own_lead, file_long_lem}
 use Rattle.writing.proofs.Answers.{write_done}
+use Rattle.results.specs.Results.{results_long}
 use Rattle.settlement.specs.Settle.{settle_refusal, settle_answer, settle_list, settle_number, settle_pool, read_refusal, read_answer, read_list, file_answer, file_list, file_number, file_pool}
 use Rattle.settlement.proofs.Answers.{settle_number_lem, settle_pool_lem, file_number_lem, file_pool_lem}
 use Rattle.again.specs.Again.{SameButOrder}
@@ -66,29 +67,29 @@ module _ (l : List ℕ) (bytes : are_bytes l ≡ true) (none : (read_file l).num
   pub as_long : length (file_of (read_file l).round) ≡ length l
   as_long = omega (arith, file_long_lem (read_file l).round led, taken, read_count l none, read_even l none)
 
-  pub settles_as_file : (fit : Bool)
-      → (file_answer (file_of (read_file l).round) fit ≡ file_answer l fit)
-      × ((give : Round → List ℕ) (lent : List ℕ) → file_list give (file_of (read_file l).round) fit lent ≡ file_list give l fit lent)
-  settles_as_file fit = (ap (λ (w : Reading). read_answer w fit) read_again, λ give lent. ap (λ (w : Reading). read_list give w fit lent) read_again)
+  pub settles_as_file : (lent : List ℕ)
+      → (file_answer (file_of (read_file l).round) (length lent) ≡ file_answer l (length lent)) × (file_list (file_of (read_file l).round) lent ≡ file_list l lent)
+  settles_as_file lent = (ap (λ (w : Reading). read_answer w (length lent)) read_again, ap (λ (w : Reading). read_list w lent) read_again)
 
 -- ---- a round, settled as it is held and as it is filed
 
-module _ (r : Round) (l : Led r) (fit : Bool) where
-  same_refusal : read_refusal (read_file (file_of r)) fit ≡ settle_refusal r fit
+module _ (r : Round) (l : Led r) (lent : List ℕ) where
+  same_refusal : read_refusal (read_file (file_of r)) (length lent) ≡ settle_refusal r (length lent)
   unfolding read_refusal settle_refusal
-  same_refusal = rw (read_back r l, led-held r l) (go fit _)
+  same_refusal = rw (read_back r l, led-held r l) (go (eqb (length lent) results_long) _)
     where
       go : (t : Bool) (n : ℕ) → (if not t then 1 else if not t then 1 else n) ≡ (if not t then 1 else n)
       go true n = refl
       go false n = refl
 
-  pub settles_as_round : (file_number (file_answer (file_of r) fit) ≡ settle_number (settle_answer r fit))
-      × (file_pool (file_answer (file_of r) fit) ≡ settle_pool (settle_answer r fit))
-      × ((give : Round → List ℕ) (lent : List ℕ) → file_list give (file_of r) fit lent ≡ settle_list give r fit lent)
+  pub settles_as_round : (file_number (file_answer (file_of r) (length lent)) ≡ settle_number (settle_answer r (length lent)))
+      × (file_pool (file_answer (file_of r) (length lent)) ≡ settle_pool (settle_answer r (length lent)))
+      × (file_list (file_of r) lent ≡ settle_list r lent)
   unfolding read_list settle_list
   settles_as_round =
+      let room = length lent in
       let w = read_file (file_of r) in (
-        file_number_lem w fit ∙ same_refusal ∙ sym (settle_number_lem r fit),
-        file_pool_lem w fit ∙ rw (same_refusal, read_back r l) (sym (settle_pool_lem r fit)),
-        λ give lent. rw (same_refusal, read_back r l),
+        file_number_lem w room ∙ same_refusal ∙ sym (settle_number_lem r room),
+        file_pool_lem w room ∙ rw (same_refusal, read_back r l) (sym (settle_pool_lem r room)),
+        rw (same_refusal, read_back r l),
       )

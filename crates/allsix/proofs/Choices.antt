@@ -1,17 +1,14 @@
 -- The word of six cards, and what is left of it where one is left out.
 -- Assumes nothing.
-use Prim.Native.Nat.{ℕ, zero, suc, ◌+◌, ◌-◌, ◌^◌, ◌≤◌, ◌<◌}
-use mathlib.Core.Path.{◌≡◌, refl}
+use Prim.Native.Nat.{ℕ, ◌+◌, ◌-◌, ◌^◌, ◌<◌}
+use mathlib.Core.Path.{◌≡◌}
 use mathlib.Core.Bool.{Bool}
 use mathlib.Core.List.{List, [], ◌∷◌, ◌++◌}
 use native.Mathlib.Omega.{arith}
-use lib.Dec.{leb}
 use lib.ListN.{length}
-use Rattle.counting.specs.Choose.{if◌then◌else◌}
 use Rattle.hands.specs.Hand.{of_rank, of_suit, flush}
 use Rattle.words.specs.Word.{word, Has}
 use Rattle.words.proofs.Cards.{word_both, word-most, few_cards}
-use Rattle.lights.specs.Lit.{without}
 use Rattle.names.specs.declared.FiveName.{FiveName}
 use Rattle.names.specs.Five.{five_by, name_five}
 
@@ -45,16 +42,3 @@ pub others_named : (cs : List ℕ) (c : ℕ) (ds : List ℕ) → length (cs ++ d
 unfolding name_five
 others_named cs c ds five by all mine same =
     by (of_rank (cs ++ ds)) (of_suit (cs ++ ds)) (omega (arith, left_out_lem cs c ds), omega (arith, few_cards (cs ++ ds))) same
-
--- the five that are left, place by place: from the card that is left out on, the next one
-pub kept-five : (a b c d e f out : ℕ) → out ≤ 5
-    → (if leb out 0 then b else a) ∷ (if leb out 1 then c else b) ∷ (if leb out 2 then d else c) ∷ (if leb out 3 then e else d) ∷ (if leb out 4 then f else e) ∷ []
-    ≡ without out (a ∷ b ∷ c ∷ d ∷ e ∷ f ∷ [])
-unfolding without
-kept-five a b c d e f zero h = refl
-kept-five a b c d e f (suc zero) h = refl
-kept-five a b c d e f (suc (suc zero)) h = refl
-kept-five a b c d e f (suc (suc (suc zero))) h = refl
-kept-five a b c d e f (suc (suc (suc (suc zero)))) h = refl
-kept-five a b c d e f (suc (suc (suc (suc (suc zero))))) h = refl
-kept-five a b c d e f (suc (suc (suc (suc (suc (suc out)))))) h = absurd (omega arith)

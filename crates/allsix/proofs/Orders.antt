@@ -1,19 +1,25 @@
--- The order of the six cards plays no part in their name.
+-- The order of the six cards plays no part in their name, nor in its refusal.
 -- Assumes nothing.
 use Prim.Native.Nat.{ℕ, zero, suc, ◌≤◌, ◌<◌}
 use mathlib.Core.Path.{◌≡◌, refl, sym, ap, ◌∙◌}
+use mathlib.Core.Bool.{Bool, true, false}
 use mathlib.Core.List.{List, [], ◌∷◌}
 use native.Mathlib.Omega.{arith}
+use lib.Dec.{eqb}
 use lib.ListN.{length}
+use borrow.Author.Tests.{eqb-true, eqb-false}
 use Rattle.counting.specs.Order.{Reordered}
 use Rattle.counting.specs.Order.Reordered.{none, keep, swap, then}
 use Rattle.counting.proofs.Orders.{same, back, reordered_length}
-use Rattle.lights.specs.Lit.{without}
+use Rattle.hands.specs.Hand.{hand_refusal}
+use Rattle.hands.proofs.Refusals.{not_refused}
 use Rattle.names.specs.Five.{name_five, five_place}
-use Rattle.names.proofs.Orders.{by_counts, five_reordered}
+use Rattle.names.proofs.Answers.{is_refused}
+use Rattle.names.proofs.Orders.{by_counts, refusal_reordered, five_reordered}
 use Rattle.names.proofs.Places.{same_place}
-use Rattle.allsix.specs.Six.{best_of_six, left_out, six_royal, name_six}
-use Rattle.allsix.proofs.Best.{best_is_best, out_most, judged_is_best}
+use Rattle.allsix.specs.declared.SixAnswer.TheVariants.{Name, Refused}
+use Rattle.allsix.specs.Six.{without, best_of_six, six_royal, name_six, answer_six}
+use Rattle.allsix.proofs.Best.{best_is_best, best_is_one}
 
 -- whatever card is left out of one, some card is left out of the other so that the rest are the same cards
 others : {xs ys : List ℕ} → Reordered xs ys → (k : ℕ) → k < length xs → (j : ℕ) × (j < length ys) × Reordered (without k xs) (without j ys)
@@ -31,8 +37,9 @@ others (then p q) k h =
 
 as_high : {xs ys : List ℕ} → Reordered xs ys → length xs ≡ 6 → five_place (best_of_six xs) ≤ five_place (best_of_six ys)
 as_high {xs} {ys} p long =
-    let o = others (back p) (left_out ys) (omega (arith, out_most ys, reordered_length p)) in
-    let e : best_of_six ys ≡ name_five (without o.0 xs) = judged_is_best ys ∙ five_reordered o.2 in
+    let b = best_is_one ys in
+    let o = others (back p) b.0 (omega (arith, b.1, reordered_length p)) in
+    let e : best_of_six ys ≡ name_five (without o.0 xs) = b.2 ∙ five_reordered o.2 in
     omega (arith, ap five_place e, best_is_best xs o.0 (omega (arith, o.1)))
 
 module _ {xs ys : List ℕ} (other : Reordered xs ys) where
@@ -45,3 +52,15 @@ module _ {xs ys : List ℕ} (other : Reordered xs ys) where
   pub six_reordered : length xs ≡ 6 → name_six xs ≡ name_six ys
   unfolding name_six six_royal
   six_reordered long = rw (by_counts other (λ h t. h), by_counts other (λ h t. t), best_reordered long)
+
+  -- of any lists: where they aren't six cards, both are refused
+  pub answer_six_reordered : answer_six xs ≡ answer_six ys
+  unfolding answer_six
+  answer_six_reordered = go (eqb (hand_refusal 6 xs) 0) refl
+    where
+      go : (b : Bool) → eqb (hand_refusal 6 xs) 0 ≡ b → answer_six xs ≡ answer_six ys
+      go true e = rw (refusal_reordered other 6, six_reordered (not_refused 6 xs (eqb-true _ _ e)).0)
+      go false e =
+          let some : (hand_refusal 6 xs ≡ 0 → ⊥) = eqb-false (hand_refusal 6 xs) 0 e in
+          sym (is_refused Name Refused (name_six xs) (hand_refusal 6 xs) (hand_refusal 6 xs) refl some)
+          ∙ is_refused Name Refused (name_six ys) (hand_refusal 6 xs) (hand_refusal 6 ys) (refusal_reordered other 6) some

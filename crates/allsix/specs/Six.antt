@@ -2,18 +2,20 @@
 -- Assumes nothing.
 use Rattle.std.specs.Prelude.{ℕ, zero, suc, ◌+◌, Bool, ◌&&◌, List, [], ◌∷◌, eqb, leb}
 use Rattle.counting.specs.Choose.{if◌then◌else◌}
-use Rattle.counting.specs.Count.{total}
 use Rattle.hands.specs.Hand.{of_rank, of_suit, flush, run, hand_refusal}
 use Rattle.names.specs.Answer.{answer}
 use Rattle.names.specs.declared.FiveName.{FiveName}
-use Rattle.lights.specs.Lit.{lit_of, places, without}
-use Rattle.names.specs.Five.{name_five, five_light, five_place}
+use Rattle.names.specs.Five.{name_five, five_place}
 use Rattle.allsix.specs.declared.SixName.{SixName}
 use Rattle.allsix.specs.declared.SixName.TheVariants.{RoyalOfDiamonds, Royal, Five}
-use Rattle.allsix.specs.declared.Six.{Six}
-use Rattle.allsix.specs.declared.Choice.{Choice}
 use Rattle.allsix.specs.declared.SixAnswer.{SixAnswer}
 use Rattle.allsix.specs.declared.SixAnswer.TheVariants.{Name, Refused}
+
+-- the cards but for the one at place k
+unfoldable pub without : ℕ → List ℕ → List ℕ
+without k [] = []
+without zero (c ∷ cs) = cs
+without (suc k) (c ∷ cs) = c ∷ without k cs
 
 -- the higher of two names of five cards
 unfoldable pub higher : FiveName → FiveName → FiveName
@@ -39,28 +41,9 @@ name_six cs =
     else if six_royal cs then Royal
     else Five (best_of_six cs)
 
--- The five judged are the best-named choice that leaves out the latest card, in the order community, All-Six card, seat's two: up to place n, the place of the card left out
-unfoldable pub out_up_to : ℕ → List ℕ → ℕ
-out_up_to zero cs = 0
-out_up_to (suc n) cs =
-    if leb (five_place (name_five (without (suc n) cs))) (five_place (best_up_to n cs)) then suc n
-    else out_up_to n cs
-
-abbrev pub left_out : List ℕ → ℕ
-left_out cs = out_up_to 5 cs
-
--- Which of the six make the name, 1, 2, 4, .. for the first, second, third card: the six-card royal lights all six; otherwise the five judged are lit by their name.
-unfoldable pub lit_six : List ℕ → ℕ
-lit_six cs =
-    if six_royal cs then total places
-    else lit_of (five_light (best_of_six cs)) (without (left_out cs) places) (without (left_out cs) cs)
-
--- what is answered on any cards: both, or a refusal
-abbrev pub named_six : List ℕ → SixAnswer
-named_six cs = Name (name_six cs) (lit_six cs)
-
+-- what is answered on any cards
 unfoldable pub answer_six : List ℕ → SixAnswer
-answer_six cs = answer Refused (hand_refusal 6 cs) (named_six cs)
+answer_six cs = answer Name Refused (hand_refusal 6 cs) (name_six cs)
 
 -- a name's place from the top: the six-card royals, then the names of five cards
 abbrev pub six_place : SixName → ℕ
@@ -68,38 +51,16 @@ six_place RoyalOfDiamonds = 0
 six_place Royal = 1
 six_place (Five name) = five_place name + 2
 
--- this paper's number for each answer, the refusal's and 0 for a name, and what the answer gives besides: the name's place, and the cards that make it
+-- this paper's number for each answer, the refusal's and 0 for a name, and what the answer gives besides: the name's place
 abbrev pub six_number : SixAnswer → ℕ
-six_number (Name name lit) = 0
+six_number (Name name) = 0
 six_number (Refused number) = number
 
 abbrev pub six_values : SixAnswer → List ℕ
-six_values (Name name lit) = six_place name ∷ lit ∷ []
+six_values (Name name) = six_place name ∷ []
 six_values (Refused number) = []
 
--- what is told of a name to one who lends numbers for it: its place, and the cards that make it; of a refusal nothing, and the numbers are what they were
+-- what is told of a name to one who lends a number for it: its place; of a refusal nothing, and the number is what it was
 abbrev pub six_told : SixAnswer → ℕ → ℕ
-six_told (Name name lit) was = six_place name
+six_told (Name name) was = six_place name
 six_told (Refused number) was = was
-
-abbrev pub six_lit : SixAnswer → ℕ → ℕ
-six_lit (Name name lit) was = lit
-six_lit (Refused number) was = was
-
--- ---- the same as the code hands it on
-
--- both of six cards
-abbrev pub six_of : List ℕ → Six
-six_of cs = record { name = name_six cs; lit = lit_six cs }
-
--- which of the six-card royals
-unfoldable pub royal_name : List ℕ → SixName
-royal_name cs = if eqb (of_suit cs 1) 6 then RoyalOfDiamonds else Royal
-
--- the next choice of five, or the best so far where that has the higher name
-abbrev pub or_better : FiveName → ℕ → Choice → Choice
-or_better name out best = if leb (five_place name) (five_place best.name) then record { name = name; out = out } else best
-
--- the best of those that leave out a card up to place n
-abbrev pub choice_up_to : ℕ → List ℕ → Choice
-choice_up_to n cs = record { name = best_up_to n cs; out = out_up_to n cs }

@@ -12,6 +12,8 @@ use Rattle.names.specs.Five.{name_five}
 use Rattle.pays.specs.declared.Pay.{Pay}
 use Rattle.odds.specs.Pays.{base_pay}
 use Rattle.pays.specs.Amounts.{handed_back, above_fifty, win_at}
+use Rattle.amounts.specs.declared.Base.{Base}
+use Rattle.amounts.specs.declared.Bases.{Bases}
 
 -- by how many antes the seat raised, on the three streets together
 abbrev pub raised_by : Round → ℕ → ℕ
@@ -49,6 +51,20 @@ kept r k =
     else if stays_in r k then handed_back (base_pay_of r k) (base_wager r k)
     else 0
 
--- the wins of the seven seats
+-- both, of a seat that is still in, by what its pay table says,
+abbrev pub base_at : Pay → ℕ → Base
+base_at pay wager =
+    record {
+      win = if above_fifty pay then win_at pay wager else 0;
+      kept = if above_fifty pay then 100 * wager else handed_back pay wager;
+    }
+
+-- of any seat, and of the seven
+abbrev pub base_of : Round → ℕ → Base
+base_of r k = record { win = win r k; kept = kept r k }
+
 unfoldable pub wins : Round → List ℕ
 wins r = each 7 (win r)
+
+abbrev pub bases_of : Round → Bases
+bases_of r = record { wins = wins r; kept = each 7 (kept r) }

@@ -20,34 +20,34 @@ use Rattle.pool.specs.Pool.{share_list}
 
 -- what a pay table says of an answer; of a refusal it says nothing
 abbrev pub base_pays : ℕ → FiveAnswer → Pay
-base_pays table (FiveAnswer.Name name lit) = base_pay table name
+base_pays table (FiveAnswer.Name name) = base_pay table name
 base_pays table (FiveAnswer.Refused number) = NoTable
 
 abbrev pub pocket_pays : ℕ → PocketAnswer → Pay
-pocket_pays table (PocketAnswer.Name name lit) = pocket_pay table name
+pocket_pays table (PocketAnswer.Name name) = pocket_pay table name
 pocket_pays table (PocketAnswer.Refused number) = NoTable
 
 abbrev pub lo_pays : ℕ → LoAnswer → Pay
-lo_pays table (LoAnswer.Name name lit) = lo_pay table name
+lo_pays table (LoAnswer.Name name) = lo_pay table name
 lo_pays table (LoAnswer.Refused number) = NoTable
 
--- What a case gives, and what must come of it: cards, their name and which of them make it, 1, 2, 4, .. for the first, second, third; a pay table's number and cards, and what it says of them;
+-- What a case gives, and what must come of it: cards and their name; a pay table's number and cards, and what it says of them;
 -- wins and a maximum, and each win's share.
 pub data Case : Type 0 where
-  five : List ℕ → FiveName → ℕ → Case
-  board : List ℕ → BoardName → ℕ → Case
-  pocket : List ℕ → PocketName → ℕ → Case
-  lo : List ℕ → LoName → ℕ → Case
+  five : List ℕ → FiveName → Case
+  board : List ℕ → BoardName → Case
+  pocket : List ℕ → PocketName → Case
+  lo : List ℕ → LoName → Case
   base : ℕ → List ℕ → Pay → Case
   pocket_bonus : ℕ → List ℕ → Pay → Case
   lo_ball : ℕ → List ℕ → Pay → Case
   shares : List ℕ → ℕ → List ℕ → Case
 
 abbrev pub Right : Case → Type 0
-Right (five cards name lit) = answer_five cards ≡ FiveAnswer.Name name lit
-Right (board cards name lit) = answer_board cards ≡ BoardAnswer.Name name lit
-Right (pocket cards name lit) = answer_pocket cards ≡ PocketAnswer.Name name lit
-Right (lo cards name lit) = answer_lo cards ≡ LoAnswer.Name name lit
+Right (five cards name) = answer_five cards ≡ FiveAnswer.Name name
+Right (board cards name) = answer_board cards ≡ BoardAnswer.Name name
+Right (pocket cards name) = answer_pocket cards ≡ PocketAnswer.Name name
+Right (lo cards name) = answer_lo cards ≡ LoAnswer.Name name
 Right (base table cards pay) = base_pays table (answer_five cards) ≡ pay
 Right (pocket_bonus table cards pay) = pocket_pays table (answer_pocket cards) ≡ pay
 Right (lo_ball table cards pay) = lo_pays table (answer_lo cards) ≡ pay
@@ -63,13 +63,13 @@ pub data AllRight : List Case → Type 0 where
 abbrev pub cases : List Case
 cases =
     -- P1: A-2-3-4-5 mixed, straight
-    five (48 ∷ 1 ∷ 6 ∷ 11 ∷ 12 ∷ []) FiveName.Straight 31
+    five (48 ∷ 1 ∷ 6 ∷ 11 ∷ 12 ∷ []) FiveName.Straight
     -- P2: the same suited, straight flush
-    ∷ five (48 ∷ 0 ∷ 4 ∷ 8 ∷ 12 ∷ []) FiveName.StraightFlush 31
+    ∷ five (48 ∷ 0 ∷ 4 ∷ 8 ∷ 12 ∷ []) FiveName.StraightFlush
     -- P3: Q-K-A-2-3 mixed, other
-    ∷ five (40 ∷ 45 ∷ 50 ∷ 3 ∷ 4 ∷ []) FiveName.Other 0
+    ∷ five (40 ∷ 45 ∷ 50 ∷ 3 ∷ 4 ∷ []) FiveName.Other
     -- P4: pair of fives, other
-    ∷ five (12 ∷ 13 ∷ 20 ∷ 31 ∷ 50 ∷ []) FiveName.Other 0
+    ∷ five (12 ∷ 13 ∷ 20 ∷ 31 ∷ 50 ∷ []) FiveName.Other
     -- P5: pair of tens, push, on each base table
     ∷ base 1 (32 ∷ 33 ∷ 20 ∷ 4 ∷ 50 ∷ []) Push
     ∷ base 2 (32 ∷ 33 ∷ 20 ∷ 4 ∷ 50 ∷ []) Push
@@ -77,24 +77,24 @@ cases =
     ∷ base 4 (32 ∷ 33 ∷ 20 ∷ 4 ∷ 50 ∷ []) Push
     ∷ base 5 (32 ∷ 33 ∷ 20 ∷ 4 ∷ 50 ∷ []) Push
     -- P6: twos and threes, two pair
-    ∷ five (0 ∷ 1 ∷ 4 ∷ 6 ∷ 50 ∷ []) FiveName.TwoPair 15
+    ∷ five (0 ∷ 1 ∷ 4 ∷ 6 ∷ 50 ∷ []) FiveName.TwoPair
     -- P7: Q-K-A suited, royal
-    ∷ board (40 ∷ 44 ∷ 48 ∷ []) BoardName.Royal 7
+    ∷ board (40 ∷ 44 ∷ 48 ∷ []) BoardName.Royal
     -- P8: K-A-2 mixed, other
-    ∷ board (44 ∷ 49 ∷ 2 ∷ []) BoardName.Other 0
+    ∷ board (44 ∷ 49 ∷ 2 ∷ []) BoardName.Other
     -- P9: A-J unsuited, 10, on each Pocket table
     ∷ pocket_bonus 1 (48 ∷ 37 ∷ []) (To 10)
     ∷ pocket_bonus 2 (48 ∷ 37 ∷ []) (To 10)
     ∷ pocket_bonus 3 (48 ∷ 37 ∷ []) (To 10)
     -- P10: A-10, nothing, suited and not
-    ∷ pocket (48 ∷ 32 ∷ []) PocketName.Nothing 0
-    ∷ pocket (48 ∷ 33 ∷ []) PocketName.Nothing 0
+    ∷ pocket (48 ∷ 32 ∷ []) PocketName.Nothing
+    ∷ pocket (48 ∷ 33 ∷ []) PocketName.Nothing
     -- P11: 2-3-4-5-7 mixed, 7 high
-    ∷ lo (0 ∷ 5 ∷ 10 ∷ 15 ∷ 20 ∷ []) (LoName.High 5) 16
+    ∷ lo (0 ∷ 5 ∷ 10 ∷ 15 ∷ 20 ∷ []) (LoName.High 5)
     -- P12: 2-4-5-6-7 hearts, nothing
-    ∷ lo (2 ∷ 10 ∷ 14 ∷ 18 ∷ 22 ∷ []) LoName.Nothing 0
+    ∷ lo (2 ∷ 10 ∷ 14 ∷ 18 ∷ 22 ∷ []) LoName.Nothing
     -- P13: queen high, loss on table 1 and push on 2
-    ∷ lo (0 ∷ 5 ∷ 10 ∷ 15 ∷ 40 ∷ []) (LoName.High 10) 16
+    ∷ lo (0 ∷ 5 ∷ 10 ∷ 15 ∷ 40 ∷ []) (LoName.High 10)
     ∷ lo_ball 1 (0 ∷ 5 ∷ 10 ∷ 15 ∷ 40 ∷ []) Loss
     ∷ lo_ball 2 (0 ∷ 5 ∷ 10 ∷ 15 ∷ 40 ∷ []) Push
     -- P14: the three shares of the house example

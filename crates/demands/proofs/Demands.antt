@@ -1,6 +1,6 @@
 -- The three demands on version four, as theorems over the definitions that the contracts of the entries cite.
 --
--- A contract says of an entry's answer, and of each list it was lent, that they are what a definition gives for its input; no entry has a
+-- A contract says of an entry's answer, and of the list it was lent, that they are what a definition gives for its input; no entry has a
 -- `requires`. So what is shown here of the definitions holds of the code: `takes` is what `held::take` answers to a record, `settle_answer` and
 -- `settle_list` are `settlement::settle`'s, `file_answer` and `file_list` `settle_file`'s, `prefix_answer` and `prefix_list` `settle_prefix`'s,
 -- `refused_part` `reading::refused_part`'s, `share_answer` and `share_list` `pool::share`'s, `write_answer` and `write_list` `writing::write_round`'s; `file_takes`,
@@ -8,7 +8,7 @@
 -- Assumes nothing.
 use Prim.Native.Nat.{ℕ, ◌*◌, ◌-◌, ◌%◌, ◌≤◌, ◌<◌}
 use mathlib.Core.Path.{◌≡◌, refl, sym, ap, ◌∙◌}
-use mathlib.Core.Bool.{Bool, true}
+use mathlib.Core.Bool.{true}
 use mathlib.Core.List.{List, [], ◌∷◌}
 use lib.ListN.{length, get_or, take, drop, replicate}
 use Rattle.counting.specs.Count.{total}
@@ -28,7 +28,7 @@ use Rattle.pool.specs.Pool.{share_answer, share_list}
 use Rattle.pool.specs.Pool.{number_of as shareNumber}
 use Rattle.pool.proofs.Shares.{answer_number, refused as share-refused}
 use Rattle.amounts.specs.Base.{hand_of, win, wins}
-use Rattle.results.specs.Results.{pool, results_long, results, result_marks}
+use Rattle.results.specs.Results.{pool, results_long, results}
 use Rattle.reading.specs.File.{file_records, stop, read_by, read_file, held_records, read_prefix, refused_part}
 use Rattle.reading.proofs.Readings.{leads_read, read_by_same, read_number, read_held, read_leads}
 use Rattle.reading.proofs.Prefix.{prefix_held, prefix_number, prefix_ends, prefix_none, prefix_whole}
@@ -42,17 +42,17 @@ use Rattle.settlement.specs.declared.Settlement.{Settlement}
 use Rattle.settlement.specs.declared.Settlement.TheVariants.{Paid}
 use Rattle.settlement.specs.declared.FileSettlement.{FileSettlement}
 use Rattle.settlement.specs.declared.FileSettlement.TheVariants.{Paid as PaidFile}
-use Rattle.settlement.specs.Settle.{both_fit, settle_answer, settle_list, settle_number, read_answer, read_list, file_answer, file_list, prefix_answer, prefix_list, file_number, file_place}
+use Rattle.settlement.specs.Settle.{settle_answer, settle_list, settle_number, read_answer, read_list, file_answer, file_list, prefix_answer, prefix_list, file_number, file_place}
 use Rattle.cutting.specs.Rounds.{shift_rounds, round_count}
 use Rattle.shifts.specs.declared.ShiftAnswer.{ShiftAnswer}
-use Rattle.shifts.specs.Shift.{round_amounts, round_marks, round_answer, answer_long, lists_fit, shift_answer, shift_list, shift_number}
+use Rattle.shifts.specs.Shift.{round_amounts, round_answer, answer_long, lists_fit, shift_answer, shift_list, shift_number}
 use Rattle.shifts.proofs.Answers.{shift_left}
 use Rattle.apart.proofs.Laws.{settled_round}
 use Rattle.demands.specs.Floor.{floor_of, paid_of, Demand3}
 use Rattle.demands.specs.Whole.{whole_file, whole_round, lower_file, lower_round}
 use Rattle.demands.proofs.Settled.{settle_left, settled, settle_paid, read_left, read_done, read_paid, read_most, refused-place}
 use Rattle.demands.proofs.Taken.{take_left, take_feeds}
-use Rattle.demands.proofs.Whole.{whole_even, whole_leads, whole_finished, whole_pool, whole_results, whole_marks, whole_floors, lower_even, lower_leads, lower_finished, lower_floor}
+use Rattle.demands.proofs.Whole.{whole_even, whole_leads, whole_finished, whole_pool, whole_results, whole_floors, lower_even, lower_leads, lower_finished, lower_floor}
 use Rattle.demands.proofs.Third.{demand_3}
 
 -- ==== Demand 1. Every input gets an answer. Each entry checks what it is handed and refuses by number;
@@ -61,25 +61,17 @@ use Rattle.demands.proofs.Third.{demand_3}
 pub demand_1_record : (r : Round) (b : List ℕ) → (number_of (takes r b).answer ≡ 0 → ⊥) → (takes r b).round ≡ r
 demand_1_record = take_left
 
--- and a refused settlement changes no amount in the results list, and no mark: of a held round,
-pub demand_1_round : (r : Round) (amounts marks : List ℕ) →
-    let fit = both_fit amounts marks in
-    (settle_number (settle_answer r fit) ≡ 0 → ⊥) → (settle_list results r fit amounts ≡ amounts) × (settle_list result_marks r fit marks ≡ marks)
-demand_1_round r amounts marks n = let left = settle_left r (both_fit amounts marks) n in (left results amounts, left result_marks marks)
+-- and a refused settlement changes no amount in the results list: of a held round,
+pub demand_1_round : (r : Round) (lent : List ℕ) → (settle_number (settle_answer r (length lent)) ≡ 0 → ⊥) → settle_list r lent ≡ lent
+demand_1_round = settle_left
 
 -- of a file,
-pub demand_1_file : (l amounts marks : List ℕ) →
-    let fit = both_fit amounts marks in
-    (file_number (file_answer l fit) ≡ 0 → ⊥) → (file_list results l fit amounts ≡ amounts) × (file_list result_marks l fit marks ≡ marks)
-demand_1_file l amounts marks n = let left = read_left (read_file l) (both_fit amounts marks) n in (left results amounts, left result_marks marks)
+pub demand_1_file : (l lent : List ℕ) → (file_number (file_answer l (length lent)) ≡ 0 → ⊥) → file_list l lent ≡ lent
+demand_1_file l lent = read_left (read_file l) lent
 
 -- of a file of which the first bytes are held,
-pub demand_1_prefix : (first : List ℕ) (after : ℕ) (amounts marks : List ℕ) →
-    let fit = both_fit amounts marks in
-    (file_number (prefix_answer first after fit) ≡ 0 → ⊥)
-    → (prefix_list results first after fit amounts ≡ amounts) × (prefix_list result_marks first after fit marks ≡ marks)
-demand_1_prefix first after amounts marks n =
-    let left = read_left (read_prefix first after) (both_fit amounts marks) n in (left results amounts, left result_marks marks)
+pub demand_1_prefix : (first : List ℕ) (after : ℕ) (lent : List ℕ) → (file_number (prefix_answer first after (length lent)) ≡ 0 → ⊥) → prefix_list first after lent ≡ lent
+demand_1_prefix first after lent = read_left (read_prefix first after) lent
 
 -- of a pool;
 pub demand_1_pool : (won : List ℕ) (most : ℕ) (lent : List ℕ) → (shareNumber (share_answer won most (length lent)) ≡ 0 → ⊥) → share_list won most lent ≡ lent
@@ -93,14 +85,11 @@ demand_1_write = write_left
 pub demand_1_rewrite : (l lent : List ℕ) → (write_number (rewrite_answer l (length lent)) ≡ 0 → ⊥) → rewrite_list l lent ≡ lent
 demand_1_rewrite = rewrite_left
 
--- A refused shift changes no list.
-pub demand_1_shift : (l amounts marks answers : List ℕ) →
-    let fit = lists_fit l amounts marks answers in
-    (shift_number (shift_answer l fit) ≡ 0 → ⊥)
-    → (shift_list round_amounts l fit amounts ≡ amounts) × (shift_list round_marks l fit marks ≡ marks) × (shift_list round_answer l fit answers ≡ answers)
-demand_1_shift l amounts marks answers n =
-    let fit = lists_fit l amounts marks answers in
-    (shift_left round_amounts l fit amounts n, shift_left round_marks l fit marks n, shift_left round_answer l fit answers n)
+-- A refused shift changes neither list.
+pub demand_1_shift : (l amounts answers : List ℕ) → (shift_number (shift_answer l (lists_fit l amounts answers)) ≡ 0 → ⊥)
+    → (shift_list round_amounts l (lists_fit l amounts answers) amounts ≡ amounts) × (shift_list round_answer l (lists_fit l amounts answers) answers ≡ answers)
+demand_1_shift l amounts answers n =
+    (shift_left round_amounts l (lists_fit l amounts answers) amounts n, shift_left round_answer l (lists_fit l amounts answers) answers n)
 
 -- ==== Demand 2. A round is refused or settled exactly as the rules say, as document 01 fixes them: the contracts.
 
@@ -108,32 +97,21 @@ demand_1_shift l amounts marks answers n =
 both_once : {A : Type 0} (answer : A) (list : List ℕ) (a b : A) (x y : List ℕ) → (a ≡ answer) × (x ≡ list) → (b ≡ answer) × (y ≡ list) → (a ≡ b) × (x ≡ y)
 both_once answer list a b x y p q = (one_answer answer a b p.0 q.0, one_answer list x y p.1 q.1)
 
--- the same of two lists
-all_once : {A : Type 0} (answer : A) (list other : List ℕ) (a b : A) (x y v w : List ℕ)
-    → (a ≡ answer) × (x ≡ list) × (v ≡ other) → (b ≡ answer) × (y ≡ list) × (w ≡ other) → (a ≡ b) × (x ≡ y) × (v ≡ w)
-all_once answer list other a b x y v w p q = (one_answer answer a b p.0 q.0, one_answer list x y p.1 q.1, one_answer other v w p.2 q.2)
-
 pub demand_2_record : (r : Round) (b : List ℕ) (s t : Step) → s ≡ takes r b → t ≡ takes r b → s ≡ t
 demand_2_record r b = one_answer (takes r b)
 
-pub demand_2_round : (r : Round) (amounts marks : List ℕ) (a b : Settlement) (x y v w : List ℕ) →
-    let fit = both_fit amounts marks in
-    (a ≡ settle_answer r fit) × (x ≡ settle_list results r fit amounts) × (v ≡ settle_list result_marks r fit marks)
-    → (b ≡ settle_answer r fit) × (y ≡ settle_list results r fit amounts) × (w ≡ settle_list result_marks r fit marks) → (a ≡ b) × (x ≡ y) × (v ≡ w)
-demand_2_round r amounts marks = all_once _ _ _
+pub demand_2_round : (r : Round) (lent : List ℕ) (a b : Settlement) (x y : List ℕ)
+    → (a ≡ settle_answer r (length lent)) × (x ≡ settle_list r lent) → (b ≡ settle_answer r (length lent)) × (y ≡ settle_list r lent) → (a ≡ b) × (x ≡ y)
+demand_2_round r lent = both_once (settle_answer r (length lent)) (settle_list r lent)
 
-pub demand_2_file : (l amounts marks : List ℕ) (a b : FileSettlement) (x y v w : List ℕ) →
-    let fit = both_fit amounts marks in
-    (a ≡ file_answer l fit) × (x ≡ file_list results l fit amounts) × (v ≡ file_list result_marks l fit marks)
-    → (b ≡ file_answer l fit) × (y ≡ file_list results l fit amounts) × (w ≡ file_list result_marks l fit marks) → (a ≡ b) × (x ≡ y) × (v ≡ w)
-demand_2_file l amounts marks = all_once _ _ _
+pub demand_2_file : (l lent : List ℕ) (a b : FileSettlement) (x y : List ℕ)
+    → (a ≡ file_answer l (length lent)) × (x ≡ file_list l lent) → (b ≡ file_answer l (length lent)) × (y ≡ file_list l lent) → (a ≡ b) × (x ≡ y)
+demand_2_file l lent = both_once (file_answer l (length lent)) (file_list l lent)
 
-pub demand_2_prefix : (first : List ℕ) (after : ℕ) (amounts marks : List ℕ) (a b : FileSettlement) (x y v w : List ℕ) →
-    let fit = both_fit amounts marks in
-    (a ≡ prefix_answer first after fit) × (x ≡ prefix_list results first after fit amounts) × (v ≡ prefix_list result_marks first after fit marks)
-    → (b ≡ prefix_answer first after fit) × (y ≡ prefix_list results first after fit amounts) × (w ≡ prefix_list result_marks first after fit marks)
-    → (a ≡ b) × (x ≡ y) × (v ≡ w)
-demand_2_prefix first after amounts marks = all_once _ _ _
+pub demand_2_prefix : (first : List ℕ) (after : ℕ) (lent : List ℕ) (a b : FileSettlement) (x y : List ℕ)
+    → (a ≡ prefix_answer first after (length lent)) × (x ≡ prefix_list first after lent)
+    → (b ≡ prefix_answer first after (length lent)) × (y ≡ prefix_list first after lent) → (a ≡ b) × (x ≡ y)
+demand_2_prefix first after lent = both_once (prefix_answer first after (length lent)) (prefix_list first after lent)
 
 pub demand_2_part : (l x y : List ℕ) → x ≡ refused_part l → y ≡ refused_part l → x ≡ y
 demand_2_part l = one_answer (refused_part l)
@@ -154,189 +132,163 @@ demand_2_rewrite l lent = both_once (rewrite_answer l (length lent)) (rewrite_li
 pub demand_2_take_file : (l b : List ℕ) (a c : Answer) → a ≡ file_takes l b → c ≡ file_takes l b → a ≡ c
 demand_2_take_file l b = one_answer (file_takes l b)
 
-pub demand_2_shift : (l amounts marks answers : List ℕ) (a b : ShiftAnswer) (x y v w t u : List ℕ) →
-    let fit = lists_fit l amounts marks answers in
-    (a ≡ shift_answer l fit) × (x ≡ shift_list round_amounts l fit amounts) × (v ≡ shift_list round_marks l fit marks) × (t ≡ shift_list round_answer l fit answers)
-    → (b ≡ shift_answer l fit) × (y ≡ shift_list round_amounts l fit amounts) × (w ≡ shift_list round_marks l fit marks) × (u ≡ shift_list round_answer l fit answers)
-    → (a ≡ b) × (x ≡ y) × (v ≡ w) × (t ≡ u)
-demand_2_shift l amounts marks answers a b x y v w t u p q =
-    (one_answer _ a b p.0 q.0, one_answer _ x y p.1 q.1, one_answer _ v w p.2 q.2, one_answer _ t u p.3 q.3)
+pub demand_2_shift : (l amounts answers : List ℕ) (a b : ShiftAnswer) (x y v w : List ℕ) →
+    let fit = lists_fit l amounts answers in
+    (a ≡ shift_answer l fit) × (x ≡ shift_list round_amounts l fit amounts) × (v ≡ shift_list round_answer l fit answers)
+    → (b ≡ shift_answer l fit) × (y ≡ shift_list round_amounts l fit amounts) × (w ≡ shift_list round_answer l fit answers) → (a ≡ b) × (x ≡ y) × (v ≡ w)
+demand_2_shift l amounts answers a b x y v w p q =
+    (one_answer _ a b p.0 q.0, one_answer _ x y p.1 q.1, one_answer _ v w p.2 q.2)
 
--- An accepted settlement: records, each accepted, lead to a finished round. The answer is that round's pool, the one list that round's results, and the other its marks.
-pub record Accepted {A : Type 0} (paid : ℕ → ℕ → A) (answer : A) (list lit : List ℕ) (records : List (List ℕ)) (round : Round) : Type 0 where
+-- An accepted settlement: records, each accepted, lead to a finished round. The answer is that round's pool, and the list that round's results.
+pub record Accepted {A : Type 0} (paid : ℕ → ℕ → A) (answer : A) (list : List ℕ) (records : List (List ℕ)) (round : Round) : Type 0 where
   pub leads : Leads fresh_round records round
   pub finished : is_finished round ≡ true
   -- the pool is not refused: it is the round's wins, shared
   pub totals : ((pool round).number ≡ 0) × ((pool round).full ≡ total (wins round)) × ((pool round).paid ≡ total (pool round).shares)
   pub answered : answer ≡ paid (pool round).full (pool round).paid
   pub listed : list ≡ results round
-  pub marked : lit ≡ result_marks round
 
-accepts : {A : Type 0} (paid : ℕ → ℕ → A) (answer : A) (list lit : List ℕ) (records : List (List ℕ)) (r : Round) → Leads fresh_round records r → is_finished r ≡ true
-    → answer ≡ paid (pool r).full (pool r).paid → list ≡ results r → lit ≡ result_marks r → Accepted paid answer list lit records r
-accepts paid answer list lit records r leads finished a x y =
-    record { leads = leads; finished = finished; totals = pool_totals r (records, leads); answered = a; listed = x; marked = y }
+accepts : {A : Type 0} (paid : ℕ → ℕ → A) (answer : A) (list : List ℕ) (records : List (List ℕ)) (r : Round) → Leads fresh_round records r → is_finished r ≡ true
+    → (answer ≡ paid (pool r).full (pool r).paid) × (list ≡ results r) → Accepted paid answer list records r
+accepts paid answer list records r leads finished p =
+    record { leads = leads; finished = finished; totals = pool_totals r (records, leads); answered = p.0; listed = p.1 }
 
 -- of a held round, by records that lead to it; of a file, and of one of which the first bytes are held, by its own
-abbrev pub AcceptedRound : Round → List ℕ → List ℕ → List (List ℕ) → Type 0
-AcceptedRound r amounts marks records =
-    let fit = both_fit amounts marks in
-    Accepted Paid (settle_answer r fit) (settle_list results r fit amounts) (settle_list result_marks r fit marks) records r
+abbrev pub AcceptedRound : Round → List ℕ → List (List ℕ) → Type 0
+AcceptedRound r lent records = Accepted Paid (settle_answer r (length lent)) (settle_list r lent) records r
 
-abbrev pub AcceptedFile : List ℕ → List ℕ → List ℕ → Round → Type 0
-AcceptedFile l amounts marks r =
-    let fit = both_fit amounts marks in
-    Accepted PaidFile (file_answer l fit) (file_list results l fit amounts) (file_list result_marks l fit marks) (file_records l) r
+abbrev pub AcceptedFile : List ℕ → List ℕ → Round → Type 0
+AcceptedFile l lent r = Accepted PaidFile (file_answer l (length lent)) (file_list l lent) (file_records l) r
 
-abbrev pub AcceptedPrefix : List ℕ → ℕ → List ℕ → List ℕ → Round → Type 0
-AcceptedPrefix first after amounts marks r =
-    let fit = both_fit amounts marks in
-    Accepted PaidFile (prefix_answer first after fit) (prefix_list results first after fit amounts) (prefix_list result_marks first after fit marks) (file_records first) r
+abbrev pub AcceptedPrefix : List ℕ → ℕ → List ℕ → Round → Type 0
+AcceptedPrefix first after lent r = Accepted PaidFile (prefix_answer first after (length lent)) (prefix_list first after lent) (file_records first) r
 
--- What is not refused is accepted: a held round (that its test decides which rounds are led is a promise of `settle`),
-pub accepted_led_round : (r : Round) (amounts marks : List ℕ) → Decides r (is_held r) → settle_number (settle_answer r (both_fit amounts marks)) ≡ 0
-    → (records : List (List ℕ)) × AcceptedRound r amounts marks records
-accepted_led_round r amounts marks decides z =
-    let d = settled r (both_fit amounts marks) z in
+-- What is not refused is accepted: a held round (that its test decides which rounds are led is `settle`'s third promise),
+pub accepted_led_round : (r : Round) (lent : List ℕ) → Decides r (is_held r) → settle_number (settle_answer r (length lent)) ≡ 0
+    → (records : List (List ℕ)) × AcceptedRound r lent records
+accepted_led_round r lent decides z =
+    let d = settled r lent z in
     let led = decides.led d.held in
-    (led.0, accepts Paid _ _ _ led.0 r led.1 d.finished d.answer (d.list results amounts) (d.list result_marks marks))
+    (led.0, accepts Paid _ _ led.0 r led.1 d.finished (d.answer, d.list))
 
 -- a file,
-pub accepted_led_file : (l amounts marks : List ℕ) → are_bytes l ≡ true → file_number (file_answer l (both_fit amounts marks)) ≡ 0 → (r : Round) × AcceptedFile l amounts marks r
-accepted_led_file l amounts marks h z =
-    let d = read_done (read_file l) (both_fit amounts marks) z in
-    ((read_file l).round, accepts PaidFile _ _ _ (file_records l) (read_file l).round (read_leads l h d.0) d.1.finished d.2 (d.3 results amounts) (d.3 result_marks marks))
+pub accepted_led_file : (l lent : List ℕ) → are_bytes l ≡ true → file_number (file_answer l (length lent)) ≡ 0 → (r : Round) × AcceptedFile l lent r
+accepted_led_file l lent h z =
+    let d = read_done (read_file l) lent z in
+    ((read_file l).round, accepts PaidFile _ _ (file_records l) (read_file l).round (read_leads l h d.0) d.1.finished (d.2, d.3))
 
 -- and a file of which the first bytes are held: none comes after them.
-pub accepted_led_prefix : (first : List ℕ) (after : ℕ) (amounts marks : List ℕ) → are_bytes first ≡ true → file_number (prefix_answer first after (both_fit amounts marks)) ≡ 0
-    → (after ≡ 0) × ((r : Round) × AcceptedPrefix first after amounts marks r)
-accepted_led_prefix first after amounts marks h z =
-    let none = prefix_ends first after (read_done (read_prefix first after) (both_fit amounts marks) z).0 in
-    (none, rw (none, prefix_none first) (accepted_led_file first amounts marks h (rw (none, prefix_none first) at z)))
+pub accepted_led_prefix : (first : List ℕ) (after : ℕ) (lent : List ℕ) → are_bytes first ≡ true → file_number (prefix_answer first after (length lent)) ≡ 0
+    → (after ≡ 0) × ((r : Round) × AcceptedPrefix first after lent r)
+accepted_led_prefix first after lent h z =
+    let none = prefix_ends first after (read_done (read_prefix first after) lent z).0 in
+    (none, rw (none, prefix_none first) (accepted_led_file first lent h (rw (none, prefix_none first) at z)))
 
--- And what records, each accepted, lead to is not refused, where it is finished and the lists are 35 long: a held round,
-pub led_accepted_round : (r : Round) (amounts marks : List ℕ) (records : List (List ℕ)) → both_fit amounts marks ≡ true → Leads fresh_round records r → is_finished r ≡ true
-    → AcceptedRound r amounts marks records
-led_accepted_round r amounts marks records right leads finished =
-    let d = settled r (both_fit amounts marks) (settle_paid r (both_fit amounts marks) (records, leads) right finished) in
-    accepts Paid _ _ _ records r leads finished d.answer (d.list results amounts) (d.list result_marks marks)
+-- And what records, each accepted, lead to is not refused, where it is finished and the list is 35 long: a held round,
+pub led_accepted_round : (r : Round) (lent : List ℕ) (records : List (List ℕ)) → length lent ≡ results_long → Leads fresh_round records r → is_finished r ≡ true
+    → AcceptedRound r lent records
+led_accepted_round r lent records room leads finished =
+    accepts Paid _ _ records r leads finished (settle_paid r lent (records, leads) room finished)
 
 -- a file,
-pub led_accepted_file : (l amounts marks : List ℕ) (r : Round) → length l % 16 ≡ 0 → both_fit amounts marks ≡ true → Leads fresh_round (file_records l) r → is_finished r ≡ true
-    → AcceptedFile l amounts marks r
+pub led_accepted_file : (l lent : List ℕ) (r : Round) → length l % 16 ≡ 0 → length lent ≡ results_long → Leads fresh_round (file_records l) r → is_finished r ≡ true
+    → AcceptedFile l lent r
 unfolding read_file
-led_accepted_file l amounts marks r even right leads finished =
-    let w = stop r 0 (length (file_records l)) in
-    let read : read_file l ≡ w = simp even (leads_read (file_records l) r leads) in
-    let d = read_done w (both_fit amounts marks) (read_paid w (both_fit amounts marks) (file_records l, leads) refl right finished) in
-    accepts PaidFile _ _ _ (file_records l) r leads finished (rw read d.2) (rw read (d.3 results amounts)) (rw read (d.3 result_marks marks))
+led_accepted_file l lent r even room leads finished =
+    let read : read_file l ≡ stop r 0 (length (file_records l)) = simp even (leads_read (file_records l) r leads) in
+    let p = read_paid (stop r 0 (length (file_records l))) lent (file_records l, leads) refl room finished in
+    accepts PaidFile _ _ (file_records l) r leads finished (rw read p)
 
 -- and a file of which all bytes are held.
-pub led_accepted_prefix : (first amounts marks : List ℕ) (r : Round) → length first % 16 ≡ 0 → both_fit amounts marks ≡ true → Leads fresh_round (file_records first) r
-    → is_finished r ≡ true → AcceptedPrefix first 0 amounts marks r
-led_accepted_prefix first amounts marks r even right leads finished = rw (prefix_none first) (led_accepted_file first amounts marks r even right leads finished)
+pub led_accepted_prefix : (first lent : List ℕ) (r : Round) → length first % 16 ≡ 0 → length lent ≡ results_long → Leads fresh_round (file_records first) r → is_finished r ≡ true
+    → AcceptedPrefix first 0 lent r
+led_accepted_prefix first lent r even room leads finished = rw (prefix_none first) (led_accepted_file first lent r even room leads finished)
 
 -- A file is never answered 17, nor by more: its number is at most 16.
-pub at_most_16_file : (l : List ℕ) (fit : Bool) → file_number (file_answer l fit) ≤ 16
-at_most_16_file l fit = read_most (read_file l) fit (read_held l) (read_number l)
+pub at_most_16_file : (l lent : List ℕ) → file_number (file_answer l (length lent)) ≤ 16
+at_most_16_file l lent = read_most (read_file l) lent (read_held l) (read_number l)
 
-pub at_most_16_prefix : (first : List ℕ) (after : ℕ) (fit : Bool) → file_number (prefix_answer first after fit) ≤ 16
-at_most_16_prefix first after fit = read_most (read_prefix first after) fit (prefix_held first after) (prefix_number first after)
+pub at_most_16_prefix : (first : List ℕ) (after : ℕ) (lent : List ℕ) → file_number (prefix_answer first after (length lent)) ≤ 16
+at_most_16_prefix first after lent = read_most (read_prefix first after) lent (prefix_held first after) (prefix_number first after)
 
 -- Settling a file agrees with feeding its records one at a time, to the entry that takes a record, from the fresh round, stopping at the first
--- refusal, and else settling the held round: in its answer, and in what each list holds.
-pub by_records : (l : List ℕ) (fit : Bool) → length l % 16 ≡ 0
-    → (file_answer l fit ≡ read_answer (read_by takes fresh_round 0 (file_records l)) fit)
-    × ((give : Round → List ℕ) (lent : List ℕ) → file_list give l fit lent ≡ read_list give (read_by takes fresh_round 0 (file_records l)) fit lent)
+-- refusal, and else settling the held round.
+pub by_records : (l lent : List ℕ) → length l % 16 ≡ 0
+    → (file_answer l (length lent) ≡ read_answer (read_by takes fresh_round 0 (file_records l)) (length lent)) × (file_list l lent ≡ read_list (read_by takes fresh_round 0 (file_records l)) lent)
 unfolding read_file
-by_records l fit even =
+by_records l lent even =
     let same : read_file l ≡ read_by takes fresh_round 0 (file_records l) = simp even (sym (read_by_same takes take_feeds (file_records l))) in
-    (ap (λ w. read_answer w fit) same, λ give lent. ap (λ w. read_list give w fit lent) same)
+    (ap (λ w. read_answer w (length lent)) same, ap (λ w. read_list w lent) same)
 
 -- The refused record that is handed back is the one at the place that the refusal carries.
-pub part_at_place : (l : List ℕ) (fit : Bool) → fit ≡ true → (file_number (file_answer l fit) ≡ 0 → ⊥)
-    → refused_part l ≡ take 16 (drop (16 * file_place (file_answer l fit)) l)
+pub part_at_place : (l lent : List ℕ) → length lent ≡ results_long → (file_number (file_answer l (length lent)) ≡ 0 → ⊥)
+    → refused_part l ≡ take 16 (drop (16 * file_place (file_answer l (length lent))) l)
 unfolding refused_part
-part_at_place l fit right n = rw (refused-place (read_file l) fit right n)
+part_at_place l lent room n = rw (refused-place (read_file l) lent room n)
 
 -- The first 34 records, and how many bytes come after them, are answered as the whole file is.
-pub prefix_is_file : (l : List ℕ) (fit : Bool) → are_bytes l ≡ true
-    → (prefix_answer (take (16 * held_records) l) (length l - 16 * held_records) fit ≡ file_answer l fit)
-    × ((give : Round → List ℕ) (lent : List ℕ) → prefix_list give (take (16 * held_records) l) (length l - 16 * held_records) fit lent ≡ file_list give l fit lent)
-prefix_is_file l fit h = (ap (λ w. read_answer w fit) (prefix_whole l h), λ give lent. ap (λ w. read_list give w fit lent) (prefix_whole l h))
+pub prefix_is_file : (l lent : List ℕ) → are_bytes l ≡ true
+    → (prefix_answer (take (16 * held_records) l) (length l - 16 * held_records) (length lent) ≡ file_answer l (length lent))
+    × (prefix_list (take (16 * held_records) l) (length l - 16 * held_records) lent ≡ file_list l lent)
+prefix_is_file l lent h = (ap (λ w. read_answer w (length lent)) (prefix_whole l h), ap (λ w. read_list w lent) (prefix_whole l h))
 
 -- ==== Demand 3. Of every accepted settlement, and of the amounts in the list that was given:
 
-accepted_3 : {A : Type 0} (paid : ℕ → ℕ → A) (answer : A) (list lit : List ℕ) (records : List (List ℕ)) (r : Round) → Accepted paid answer list lit records r → Demand3 r list
-accepted_3 paid answer list lit records r a = rw a.listed (demand_3 r (records, a.leads) a.finished)
+accepted_3 : {A : Type 0} (paid : ℕ → ℕ → A) (answer : A) (list : List ℕ) (records : List (List ℕ)) (r : Round) → Accepted paid answer list records r → Demand3 r list
+accepted_3 paid answer list records r a = rw a.listed (demand_3 r (records, a.leads) a.finished)
 
 -- of a held round,
-pub demand_3_round : (r : Round) (amounts marks : List ℕ) → Decides r (is_held r) → settle_number (settle_answer r (both_fit amounts marks)) ≡ 0
-    → (records : List (List ℕ)) × AcceptedRound r amounts marks records × Demand3 r (settle_list results r (both_fit amounts marks) amounts)
-demand_3_round r amounts marks decides z =
-    let a = accepted_led_round r amounts marks decides z in (a.0, a.1, accepted_3 Paid _ _ _ a.0 r a.1)
+pub demand_3_round : (r : Round) (lent : List ℕ) → Decides r (is_held r) → settle_number (settle_answer r (length lent)) ≡ 0
+    → (records : List (List ℕ)) × AcceptedRound r lent records × Demand3 r (settle_list r lent)
+demand_3_round r lent decides z = let a = accepted_led_round r lent decides z in (a.0, a.1, accepted_3 Paid _ _ a.0 r a.1)
 
 -- of a file,
-pub demand_3_file : (l amounts marks : List ℕ) → are_bytes l ≡ true → file_number (file_answer l (both_fit amounts marks)) ≡ 0
-    → (r : Round) × AcceptedFile l amounts marks r × Demand3 r (file_list results l (both_fit amounts marks) amounts)
-demand_3_file l amounts marks h z = let a = accepted_led_file l amounts marks h z in (a.0, a.1, accepted_3 PaidFile _ _ _ (file_records l) a.0 a.1)
+pub demand_3_file : (l lent : List ℕ) → are_bytes l ≡ true → file_number (file_answer l (length lent)) ≡ 0
+    → (r : Round) × AcceptedFile l lent r × Demand3 r (file_list l lent)
+demand_3_file l lent h z = let a = accepted_led_file l lent h z in (a.0, a.1, accepted_3 PaidFile _ _ (file_records l) a.0 a.1)
 
 -- and of a file of which the first bytes are held.
-pub demand_3_prefix : (first : List ℕ) (after : ℕ) (amounts marks : List ℕ) → are_bytes first ≡ true → file_number (prefix_answer first after (both_fit amounts marks)) ≡ 0
-    → (r : Round) × AcceptedPrefix first after amounts marks r × Demand3 r (prefix_list results first after (both_fit amounts marks) amounts)
-demand_3_prefix first after amounts marks h z =
-    let a = (accepted_led_prefix first after amounts marks h z).1 in (a.0, a.1, accepted_3 PaidFile _ _ _ (file_records first) a.0 a.1)
+pub demand_3_prefix : (first : List ℕ) (after : ℕ) (lent : List ℕ) → are_bytes first ≡ true → file_number (prefix_answer first after (length lent)) ≡ 0
+    → (r : Round) × AcceptedPrefix first after lent r × Demand3 r (prefix_list first after lent)
+demand_3_prefix first after lent h z =
+    let a = (accepted_led_prefix first after lent h z).1 in (a.0, a.1, accepted_3 PaidFile _ _ (file_records first) a.0 a.1)
 
 -- And of every settled round of a shift, in its own part of the list: round k, whose number among the answers is 0.
-pub demand_3_shift : (l amounts marks answers : List ℕ) → are_bytes l ≡ true →
-    let fit = lists_fit l amounts marks answers in
-    let zeros : List ℕ = replicate results_long 0 in
-    shift_number (shift_answer l fit) ≡ 0 → (k : ℕ) → k < round_count l → get_or (shift_list round_answer l fit answers) (answer_long * k) 0 ≡ 0
-    → (r : Round) × AcceptedFile (get_or (shift_rounds l) k []) zeros zeros r
-    × Demand3 r (take results_long (drop (results_long * k) (shift_list round_amounts l fit amounts)))
-demand_3_shift l amounts marks answers bytes z k h none =
-    let zeros : List ℕ = replicate results_long 0 in
-    let s = settled_round l (lists_fit l amounts marks answers) z amounts answers bytes k h none in
-    let d = demand_3_file (get_or (shift_rounds l) k []) zeros zeros s.0 s.1 in (d.0, d.1, rw s.2 d.2)
+pub demand_3_shift : (l amounts answers : List ℕ) → are_bytes l ≡ true → shift_number (shift_answer l (lists_fit l amounts answers)) ≡ 0
+    → (k : ℕ) → k < round_count l → get_or (shift_list round_answer l (lists_fit l amounts answers) answers) (answer_long * k) 0 ≡ 0
+    → (r : Round) × AcceptedFile (get_or (shift_rounds l) k []) (replicate results_long 0) r
+    × Demand3 r (take results_long (drop (results_long * k) (shift_list round_amounts l (lists_fit l amounts answers) amounts)))
+demand_3_shift l amounts answers bytes z k h none =
+    let s = settled_round l (lists_fit l amounts answers) z amounts answers bytes k h none in
+    let d = demand_3_file (get_or (shift_rounds l) k []) (replicate results_long 0) s.0 s.1 in (d.0, d.1, rw s.2 d.2)
 
 -- The whole round of document 01: its file is accepted, and its records lead to that round.
-pub whole_accepted : (amounts marks : List ℕ) → both_fit amounts marks ≡ true → AcceptedFile whole_file amounts marks whole_round
-whole_accepted amounts marks right = led_accepted_file whole_file amounts marks whole_round whole_even right whole_leads whole_finished
+pub whole_accepted : (lent : List ℕ) → length lent ≡ results_long → AcceptedFile whole_file lent whole_round
+whole_accepted lent room = led_accepted_file whole_file lent whole_round whole_even room whole_leads whole_finished
 
--- These are the answer to its file and the lists that are then given, a seat on each line. Seat 1's five cards are lit, 1 + 2 + 4 + 16 + 32, the three of the board, and its
--- own two; so are seat 2's five, and of its own two none, which are no name, nor have five that are a straight flush a Lo Ball.
-pub whole_file_lem : (amounts marks : List ℕ) → both_fit amounts marks ≡ true →
-    let fit = both_fit amounts marks in
-    (file_answer whole_file fit ≡ PaidFile 600000 25000)
-    × (file_list results whole_file fit amounts ≡ 2183300 ∷ 20500 ∷ 10500 ∷ 0 ∷ 0
+-- These are the answer to its file and the list that is then given, a seat on each line.
+pub whole_file_lem : (lent : List ℕ) → length lent ≡ results_long
+    → (file_answer whole_file (length lent) ≡ PaidFile 600000 25000)
+    × (file_list whole_file lent ≡ 2183300 ∷ 20500 ∷ 10500 ∷ 0 ∷ 0
     ∷ 516700 ∷ 0 ∷ 0 ∷ 0 ∷ 0
     ∷ 0 ∷ 0 ∷ 0 ∷ 0 ∷ 0
     ∷ 0 ∷ 0 ∷ 0 ∷ 0 ∷ 0
     ∷ 0 ∷ 0 ∷ 0 ∷ 0 ∷ 0
     ∷ 0 ∷ 0 ∷ 0 ∷ 0 ∷ 0
     ∷ 0 ∷ 0 ∷ 0 ∷ 0 ∷ 0 ∷ [])
-    × (file_list result_marks whole_file fit marks ≡ 55 ∷ 7 ∷ 48 ∷ 0 ∷ 0
-    ∷ 55 ∷ 0 ∷ 0 ∷ 0 ∷ 0
-    ∷ 0 ∷ 0 ∷ 0 ∷ 0 ∷ 0
-    ∷ 0 ∷ 0 ∷ 0 ∷ 0 ∷ 0
-    ∷ 0 ∷ 0 ∷ 0 ∷ 0 ∷ 0
-    ∷ 0 ∷ 0 ∷ 0 ∷ 0 ∷ 0
-    ∷ 0 ∷ 0 ∷ 0 ∷ 0 ∷ 0 ∷ [])
-whole_file_lem amounts marks right =
-    let a = whole_accepted amounts marks right in (rw whole_pool at a.answered, a.listed ∙ whole_results, a.marked ∙ whole_marks)
+whole_file_lem lent room =
+    let a = whole_accepted lent room in (rw whole_pool at a.answered, a.listed ∙ whole_results)
 
 -- There seat 1, with the royal flush, is paid its floor of 20,833 dollars and no more; the dollar that is left is seat 2's, whose floor is 4,166.
-pub floor_is_paid : (amounts marks : List ℕ) → both_fit amounts marks ≡ true →
-    let list = file_list results whole_file (both_fit amounts marks) amounts in
-    (floor_of whole_round.table (is_royal (hand_of whole_round 0)) (win whole_round 0) ≡ 20833) × (paid_of whole_round list 0 ≡ 100 * 20833)
-    × (floor_of whole_round.table (is_royal (hand_of whole_round 1)) (win whole_round 1) ≡ 4166) × (paid_of whole_round list 1 ≡ 100 * 4167)
-floor_is_paid amounts marks right = rw (whole_accepted amounts marks right).listed whole_floors
+pub floor_is_paid : (lent : List ℕ) → length lent ≡ results_long
+    → (floor_of whole_round.table (is_royal (hand_of whole_round 0)) (win whole_round 0) ≡ 20833) × (paid_of whole_round (file_list whole_file lent) 0 ≡ 100 * 20833)
+    × (floor_of whole_round.table (is_royal (hand_of whole_round 1)) (win whole_round 1) ≡ 4166) × (paid_of whole_round (file_list whole_file lent) 1 ≡ 100 * 4167)
+floor_is_paid lent room = rw (whole_accepted lent room).listed whole_floors
 
 -- A straight flush reaches its floor too: where seat 2 raises 2 antes on streets two and three, the dollar left is seat 1's.
-pub lower_accepted : (amounts marks : List ℕ) → both_fit amounts marks ≡ true → AcceptedFile lower_file amounts marks lower_round
-lower_accepted amounts marks right = led_accepted_file lower_file amounts marks lower_round lower_even right lower_leads lower_finished
+pub lower_accepted : (lent : List ℕ) → length lent ≡ results_long → AcceptedFile lower_file lent lower_round
+lower_accepted lent room = led_accepted_file lower_file lent lower_round lower_even room lower_leads lower_finished
 
-pub lower_floor_is_paid : (amounts marks : List ℕ) → both_fit amounts marks ≡ true →
-    let list = file_list results lower_file (both_fit amounts marks) amounts in
-    (floor_of lower_round.table (is_royal (hand_of lower_round 1)) (win lower_round 1) ≡ 3448) × (paid_of lower_round list 1 ≡ 100 * 3448)
-lower_floor_is_paid amounts marks right = rw (lower_accepted amounts marks right).listed lower_floor
+pub lower_floor_is_paid : (lent : List ℕ) → length lent ≡ results_long
+    → (floor_of lower_round.table (is_royal (hand_of lower_round 1)) (win lower_round 1) ≡ 3448) × (paid_of lower_round (file_list lower_file lent) 1 ≡ 100 * 3448)
+lower_floor_is_paid lent room = rw (lower_accepted lent room).listed lower_floor

@@ -12,10 +12,9 @@ use Rattle.cards.specs.Deck.{repeated_at, repeats, faulty}
 use Rattle.records.specs.Bytes.{zero_from}
 use Rattle.records.specs.Seats.{any_plays}
 use Rattle.hands.specs.Hand.{of_rank, of_suit, kinds, flush, rank_on, run, straight, highest}
-use Rattle.lights.specs.Lit.{lit, lit_sum, lit_of, without}
 use Rattle.names.specs.Top.{is_royal}
 use Rattle.names.specs.Five.{five_by, name_five}
-use Rattle.names.specs.Board.{board_by, name_board, lit_board}
+use Rattle.names.specs.Board.{board_by, name_board}
 use Rattle.names.specs.Pocket.{ace_face, pocket_by, name_pocket}
 use Rattle.names.specs.Lo.{is_lo, lo_by, name_lo}
 use Rattle.odds.specs.Tables.{base_lines, lo_lines, board_lines, pocket_lines}
@@ -41,8 +40,7 @@ use Rattle.reading.proofs.Readings.{leads_whole}
 use Rattle.holding.specs.Deal.{playing_before, dealers_first, community_at, hole, community, five}
 use Rattle.amounts.specs.Base.{base_wager, hand_of, base_pay_of, pooled, win, kept, wins}
 use Rattle.amounts.specs.Sides.{board_pay_of, pocket_pay_of, lo_pay_of, six_pay_of, board_amount, pocket_amount, lo_amount, six_amount}
-use Rattle.amounts.specs.Marks.{hand_mark, base_mark, placed, board_lit, board_mark, pocket_lit, pocket_mark, lo_lit, lo_mark, six_mark}
-use Rattle.results.specs.Results.{pool, base_amount, seat_amounts, results, seat_marks, result_marks}
+use Rattle.results.specs.Results.{pool, base_amount, seat_amounts, results}
 use Rattle.demands.specs.Floor.{floor_of, paid_of, most_pooled}
 use Rattle.demands.specs.Whole.{whole_file, whole_round, lower_file, lower_round}
 
@@ -96,10 +94,6 @@ whole_pool = rw whole_wins
 pub whole_results : results whole_round ≡ 2183300 ∷ 20500 ∷ 10500 ∷ 0 ∷ 0 ∷ 516700 ∷ replicate 29 0
 unfolding whole_round tally every_below some_below count gather of_rank of_suit kinds flush rank_on run straight highest five_by name_five board_by name_board ace_face pocket_by name_pocket is_lo lo_by name_lo base_lines lo_lines board_lines pocket_lines pay_in base_pay lo_pay board_pay pocket_pay playing_before dealers_first community_at hole community five base_wager hand_of base_pay_of pooled win kept board_pay_of pocket_pay_of lo_pay_of board_amount pocket_amount lo_amount six_pay six_pay_of six_amount base_amount seat_amounts results
 whole_results = rw whole_pool
-
-pub whole_marks : result_marks whole_round ≡ 55 ∷ 7 ∷ 48 ∷ 0 ∷ 0 ∷ 55 ∷ replicate 29 0
-unfolding whole_round tally every_below some_below count gather of_rank of_suit kinds flush rank_on run straight highest lit lit_sum lit_of without five_by name_five board_by name_board lit_board ace_face pocket_by name_pocket is_lo lo_by name_lo playing_before dealers_first community_at hole community five hand_of hand_mark base_mark placed board_lit board_mark pocket_lit pocket_mark lo_lit lo_mark six_mark seat_marks result_marks
-whole_marks = refl
 
 abbrev royal_at : Round → ℕ → Bool
 royal_at r k = is_royal (hand_of r k)

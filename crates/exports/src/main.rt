@@ -1,11 +1,11 @@
 // Calls the functions that pads in C and in Rust link, each on inputs that are answered and on inputs that are refused. Those that settle a shift are called by `nights`.
 //
 // Standard input is the round file of document 01. Printed is a line for each call: the answer, then what is told in what was lent, where 7 stood before. The file
-// is settled whole (`file`), without its last byte (`odd`), without its table (`late`), into 28 amounts, and with 28 marks: the number, the pool, the place, the list, the marks. Then comes
+// is settled whole (`file`), without its last byte (`odd`), without its table (`late`), and into 28 numbers: the number, the pool, the place, the list. Then comes
 // where each refused part begins and its length (`part`); what a file that is held answers to a record, and whether the round is then finished (`take`): the empty
 // file to the table, and twelve records to the last one, to the one before it again, and to that one's first 15 bytes; the whole file to one more, and the file
 // without its last byte. Then the writing of a held file, and the room as hexadecimal digits (`write`): the table alone, into 16 bytes
-// and into 15, the empty file, and a seat alone. Then what a royal flush, a straight flush, a repeat and four cards are called, and which cards make it (`name`); what 2-3-4-5-7 and
+// and into 15, the empty file, and a seat alone. Then what a royal flush, a straight flush, a repeat and four cards are called (`name`); what 2-3-4-5-7 and
 // 2-3-4-5-6 of mixed suits, a repeat and four cards are for Lo Ball (`lo`); what nine to ace of diamonds and of hearts, eight to king of
 // hearts, a repeat and five cards are for All-Six (`six`); and how the house's own example is shared, into two numbers, and under 75,001
 // (`share`). A refusal leaves each 7 but the place.
@@ -24,7 +24,7 @@ use ripplehatch::{
     ripplehatch_name_five, ripplehatch_name_lo, ripplehatch_name_six, ripplehatch_refused_part,
     ripplehatch_settle_file, ripplehatch_share, ripplehatch_take, ripplehatch_write,
 };
-use text::{put_bytes, put_line, put_list, put_small};
+use text::{put_bytes, put_line, put_list};
 
 // The round file's bytes.
 const WHOLE: usize = 208;
@@ -51,29 +51,16 @@ fn write_list(what: &[u8], number: u8, told: &[u64], list: &[u64]) -> bool {
     print(&NAME, &line, last)
 }
 
-// The same, and the marks behind the list.
-fn write_settled(what: &[u8], number: u8, told: &[u64], list: &[u64], marks: &[u8]) -> bool {
-    let mut line = [0u8; LINE];
-    let answered = put_list(&mut line, 0, what, &[number as u64]);
-    let besides = put_list(&mut line, answered, b"", told);
-    let listed = put_list(&mut line, besides, b", list", list);
-    let marked = put_small(&mut line, listed, b", marks", marks);
-    let last = put_bytes(&mut line, marked, b"\n");
-    print(&NAME, &line, last)
-}
-
-fn ask_settle(what: &[u8], file: &[u8], room: usize, marked: usize) -> bool
-    requires { (room ≤ 35) × (marked ≤ 35) }
+fn ask_settle(what: &[u8], file: &[u8], room: usize) -> bool
+    requires { room ≤ 35 }
 {
     let mut results = [BEFORE; 35];
-    let mut marks = [7u8; 35];
     let lent: &mut [u64] = &mut results[0..room];
-    let lit: &mut [u8] = &mut marks[0..marked];
     let mut full = BEFORE;
     let mut paid = BEFORE;
     let mut place = 7;
-    let number = ripplehatch_settle_file(file, lent, lit, &mut full, &mut paid, &mut place);
-    write_settled(what, number, &[full, paid, place as u64], lent, lit)
+    let number = ripplehatch_settle_file(file, lent, &mut full, &mut paid, &mut place);
+    write_list(what, number, &[full, paid, place as u64], lent)
 }
 
 fn ask_part(what: &[u8], file: &[u8]) -> bool {
@@ -109,23 +96,20 @@ fn ask_write(held: &[u8], room: usize) -> bool
 
 fn ask_name(what: &[u8], cards: &[u8]) -> bool {
     let mut name = 7;
-    let mut lit = 7u8;
-    let number = ripplehatch_name_five(cards, &mut name, &mut lit);
-    write_numbers(what, &[number as u64, name as u64, lit as u64])
+    let number = ripplehatch_name_five(cards, &mut name);
+    write_numbers(what, &[number as u64, name as u64])
 }
 
 fn ask_lo(what: &[u8], cards: &[u8]) -> bool {
     let mut high = 7;
-    let mut lit = 7u8;
-    let number = ripplehatch_name_lo(cards, &mut high, &mut lit);
-    write_numbers(what, &[number as u64, high as u64, lit as u64])
+    let number = ripplehatch_name_lo(cards, &mut high);
+    write_numbers(what, &[number as u64, high as u64])
 }
 
 fn ask_six(what: &[u8], cards: &[u8]) -> bool {
     let mut name = 7;
-    let mut lit = 7u8;
-    let number = ripplehatch_name_six(cards, &mut name, &mut lit);
-    write_numbers(what, &[number as u64, name as u64, lit as u64])
+    let number = ripplehatch_name_six(cards, &mut name);
+    write_numbers(what, &[number as u64, name as u64])
 }
 
 fn ask_share(what: &[u8], wins: &[u64], maximum: u64, room: usize) -> bool
@@ -138,19 +122,16 @@ fn ask_share(what: &[u8], wins: &[u64], maximum: u64, room: usize) -> bool
 }
 
 fn ask_files(file: [u8; WHOLE]) -> bool {
-    if !ask_settle(b"file", &file, 35, 35) {
+    if !ask_settle(b"file", &file, 35) {
         return false;
     }
-    if !ask_settle(b"odd", &file[0..207], 35, 35) {
+    if !ask_settle(b"odd", &file[0..207], 35) {
         return false;
     }
-    if !ask_settle(b"late", &file[16..208], 35, 35) {
+    if !ask_settle(b"late", &file[16..208], 35) {
         return false;
     }
-    if !ask_settle(b"file", &file, 28, 35) {
-        return false;
-    }
-    ask_settle(b"file", &file, 35, 28)
+    ask_settle(b"file", &file, 28)
 }
 
 fn ask_parts(file: [u8; WHOLE]) -> bool {

@@ -3,8 +3,8 @@
 // Standard input is a run of items of 174 bytes: a round as its 158 bytes, then a record of 16. A round's bytes are the table's seven numbers; the antes, Board,
 // Pocket, Lo Ball and All-Six wagers of seats 1 to 7, two bytes each, low byte first; the 52 cards; how many deck parts were read; the 21 raises, street by street; the
 // seven folds. Printed is a line for each item: `take` with `next`, `finished` or `refused N`, then `settle` with `refused N`, or with `paid`, the 35 amounts in
-// cents, `pool` and the pool in dollars, full and as paid, `lit` and the 35 marks; then `write` with `refused N`, or with the records of the written file, each as
-// hexadecimal digits without the zero bytes at its end.
+// cents, `pool` and the pool in dollars, full and as paid; then `write` with `refused N`, or with the records of the written file, each as hexadecimal digits
+// without the zero bytes at its end.
 //
 // Example:
 //     head -c 174 /dev/zero | ./run handmade
@@ -24,7 +24,7 @@ use results::RESULTS;
 use round::{Answer, Round};
 use seating::{Table, Wagers};
 use settlement::{Settlement, settle};
-use text::{put_bytes, put_list, put_named, put_small};
+use text::{put_bytes, put_list, put_named};
 use writing::{WriteAnswer, file_length, write_round};
 
 const NAME: [u8; 8] = *b"handmade";
@@ -121,24 +121,14 @@ fn put_taken(line: &mut [u8], answer: Answer) -> usize {
     }
 }
 
-fn put_paid(
-    line: &mut [u8],
-    at: usize,
-    amounts: [u64; RESULTS],
-    marks: [u8; RESULTS],
-    full: u64,
-    paid: u64,
-) -> usize {
+fn put_paid(line: &mut [u8], at: usize, amounts: [u64; RESULTS], full: u64, paid: u64) -> usize {
     let listed = put_list(line, at, b" settle paid", &amounts);
-    let pooled = put_list(line, listed, b" pool", &[full, paid]);
-    put_small(line, pooled, b" lit", &marks)
+    put_list(line, listed, b" pool", &[full, paid])
 }
 
-fn put_settled(line: &mut [u8], at: usize, round: Round) -> usize {
-    let mut amounts = [0u64; RESULTS];
-    let mut marks = [0u8; RESULTS];
-    match settle(round, &mut amounts, &mut marks) {
-        Settlement::Paid { full, paid } => put_paid(line, at, amounts, marks, full, paid),
+fn put_settled(line: &mut [u8], at: usize, answer: Settlement, amounts: [u64; RESULTS]) -> usize {
+    match answer {
+        Settlement::Paid { full, paid } => put_paid(line, at, amounts, full, paid),
         Settlement::Refused(number) => put_named(line, at, b" settle refused ", number as u64),
     }
 }
@@ -168,13 +158,15 @@ fn put_file(line: &mut [u8], at: usize, answer: WriteAnswer, file: &[u8]) -> usi
     }
 }
 
-// A line is at most 35 amounts of 20 digits, the pool, 35 marks of 3 and 33 records, so it fits its room.
+// A line is at most 35 amounts of 20 digits, the pool and 33 records, so it fits its room.
 fn answer_round(round: Round, record: &[u8]) -> bool {
-    let mut line = [0u8; 2304];
+    let mut line = [0u8; 2048];
     let step = held::take(round, record);
     let answer = step.answer;
     let taken = put_taken(&mut line, answer);
-    let settled = put_settled(&mut line, taken, round);
+    let mut amounts = [0u64; RESULTS];
+    let settlement = settle(round, &mut amounts);
+    let settled = put_settled(&mut line, taken, settlement, amounts);
     let written = put_written(&mut line, settled, round);
     let last = put_bytes(&mut line, written, b"\n");
     print(&NAME, &line, last)

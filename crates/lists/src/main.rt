@@ -1,9 +1,9 @@
-// Settles with two lists of 28, 34, 35 and 36 numbers, and writes into rooms of 0, 207, 208 and 209 bytes: when 1 is answered, and that a refusal changes nothing lent.
+// Settles with lists of 28, 34, 35 and 36 numbers, and writes into rooms of 0, 207, 208 and 209 bytes: when 1 is answered, and that a refusal changes nothing lent.
 //
 // Standard input is the round file of document 01. It is settled whole (`file`), without its last byte (`odd file`) and empty; then
 // the round that it leads to is settled as a held round, as are the fresh one and one with a fifth deck part, which no records lead to
-// (`false round`). One of the two lists, that of amounts or that of marks, has another length than 35, or neither. Printed are the answer and how many numbers of the lent lists were
-// changed. Then the same files, as held ones, and the same rounds are written: printed are the answer and how many bytes of the lent room were changed.
+// (`false round`). Printed are the answer and how many numbers of the lent list were changed. The same files, as held ones, and the same rounds are written: printed
+// are the answer and how many bytes of the lent room were changed.
 //
 // Example:
 //     ./run lists samples/whole-round.bin | tail -n 1
@@ -12,7 +12,7 @@
 //
 // stdout beside src/ is worked out from the documents' order: a file 1, 2, then record by record; a held round 17, 1, 16; writing 17, 16, 1. What the program
 // prints is tested and not proved.
-ghost use Rattle.std.specs.Prelude.{◌≤◌, length};
+ghost use Rattle.std.specs.Prelude.{◌≤◌};
 
 use filing::rewrite_file;
 use pipes::{Outcome, called, end, print, read_all, tell};
@@ -26,38 +26,26 @@ const NAME: [u8; 5] = *b"lists";
 
 const ROOM: usize = 36;
 
-// What stands in the list of amounts before: no amount of the round.
+// What stands in the list before: no amount of the round.
 const BEFORE: u64 = 7;
 
 // The round file's bytes.
 const WHOLE: usize = 208;
 
-// The longest room for them.
+// The longest room for them, and what stands there before: no byte of the round.
 const BYTES: usize = 209;
 
-// What stands in a room and in the list of marks before: no byte and no mark of the round.
 const BYTE_BEFORE: u8 = 255;
 
-// The lengths of the list of amounts that are tried, and of the list of marks beside it.
+// The lengths that are tried.
 fn long(k: u8) -> usize
     ensures { result ≤ 36 }
 {
     match k {
         0 => 28,
         1 => 34,
-        2 => 36,
-        _ => 35,
-    }
-}
-
-fn marks_long(k: u8) -> usize
-    ensures { result ≤ 36 }
-{
-    match k {
-        3 => 28,
-        4 => 34,
-        5 => 36,
-        _ => 35,
+        2 => 35,
+        _ => 36,
     }
 }
 
@@ -81,9 +69,7 @@ fn unlike(n: u64) -> u64
     0
 }
 
-fn changed(list: [u64; ROOM]) -> u64
-    ensures { result ≤ 36 }
-{
+fn changed(list: [u64; ROOM]) -> u64 {
     let mut changed = 0;
     for i in 0..ROOM {
         changed += unlike(list[i]);
@@ -100,38 +86,19 @@ fn unlike_byte(b: u8) -> u64
     0
 }
 
-fn changed_bytes(room: &[u8]) -> u64
-    ensures { result ≤ length room.now }
-{
+fn changed_bytes(room: [u8; BYTES]) -> u64 {
     let mut changed = 0;
-    let mut i = 0;
-    while i < room.len() {
+    for i in 0..BYTES {
         changed += unlike_byte(room[i]);
-        i += 1;
     }
     changed
 }
 
-fn room_changed(room: [u8; BYTES]) -> u64 {
-    changed_bytes(&room)
-}
-
-// Of both lists.
-fn lists_changed(list: [u64; ROOM], marks: [u8; ROOM]) -> u64 {
-    changed(list) + changed_bytes(&marks)
-}
-
-// A line's beginning: what was settled, and how long the two lists were.
-fn put_lists(line: &mut [u8], what: &[u8], n: usize, m: usize) -> usize {
+// A line's beginning: what was settled or written, and how long the list or the room was.
+fn put_question(line: &mut [u8], what: &[u8], lent: &[u8], n: usize) -> usize {
     let asked = put_bytes(line, 0, what);
-    let first = put_named(line, asked, b", lists of ", n as u64);
-    put_named(line, first, b" and ", m as u64)
-}
-
-// What was written, and how long the room was.
-fn put_room(line: &mut [u8], what: &[u8], n: usize) -> usize {
-    let asked = put_bytes(line, 0, what);
-    put_named(line, asked, b", room of ", n as u64)
+    let told = put_bytes(line, asked, lent);
+    put_named(line, told, b" of ", n as u64)
 }
 
 fn put_refused(line: &mut [u8], at: usize, number: u8, place: usize) -> usize {
@@ -160,49 +127,47 @@ fn put_written(line: &mut [u8], at: usize, answer: WriteAnswer) -> usize {
     }
 }
 
-// Ends the line with how many numbers or bytes were changed, and writes it.
+// Ends the line with how many numbers of the list were changed, and writes it.
 fn write_changed(mut line: [u8; 128], at: usize, changed: u64) -> bool {
     let last = put_line(&mut line, at, b", changed", &[changed]);
     print(&NAME, &line, last)
 }
 
-fn write_file(what: &[u8], n: usize, m: usize, answer: FileSettlement, changed: u64) -> bool {
+fn write_file(what: &[u8], n: usize, answer: FileSettlement, changed: u64) -> bool {
     let mut line = [0u8; 128];
-    let asked = put_lists(&mut line, what, n, m);
+    let asked = put_question(&mut line, what, b", list", n);
     let answered = put_file(&mut line, asked, answer);
     write_changed(line, answered, changed)
 }
 
-fn write_held(what: &[u8], n: usize, m: usize, answer: Settlement, changed: u64) -> bool {
+fn write_held(what: &[u8], n: usize, answer: Settlement, changed: u64) -> bool {
     let mut line = [0u8; 128];
-    let asked = put_lists(&mut line, what, n, m);
+    let asked = put_question(&mut line, what, b", list", n);
     let answered = put_round(&mut line, asked, answer);
     write_changed(line, answered, changed)
 }
 
 fn write_written(what: &[u8], n: usize, answer: WriteAnswer, changed: u64) -> bool {
     let mut line = [0u8; 128];
-    let asked = put_room(&mut line, what, n);
+    let asked = put_question(&mut line, what, b", room", n);
     let answered = put_written(&mut line, asked, answer);
     write_changed(line, answered, changed)
 }
 
-fn ask_file(what: &[u8], file: &[u8], n: usize, m: usize) -> bool
-    requires { (n ≤ 36) × (m ≤ 36) }
+fn ask_file(what: &[u8], file: &[u8], n: usize) -> bool
+    requires { n ≤ 36 }
 {
     let mut list = [BEFORE; ROOM];
-    let mut marks = [BYTE_BEFORE; ROOM];
-    let answer = settle_file(file, &mut list[0..n], &mut marks[0..m]);
-    write_file(what, n, m, answer, lists_changed(list, marks))
+    let answer = settle_file(file, &mut list[0..n]);
+    write_file(what, n, answer, changed(list))
 }
 
-fn ask_round(what: &[u8], round: Round, n: usize, m: usize) -> bool
-    requires { (n ≤ 36) × (m ≤ 36) }
+fn ask_round(what: &[u8], round: Round, n: usize) -> bool
+    requires { n ≤ 36 }
 {
     let mut list = [BEFORE; ROOM];
-    let mut marks = [BYTE_BEFORE; ROOM];
-    let answer = settle(round, &mut list[0..n], &mut marks[0..m]);
-    write_held(what, n, m, answer, lists_changed(list, marks))
+    let answer = settle(round, &mut list[0..n]);
+    write_held(what, n, answer, changed(list))
 }
 
 fn ask_rewrite(what: &[u8], file: &[u8], n: usize) -> bool
@@ -210,7 +175,7 @@ fn ask_rewrite(what: &[u8], file: &[u8], n: usize) -> bool
 {
     let mut room = [BYTE_BEFORE; BYTES];
     let answer = rewrite_file(file, &mut room[0..n]);
-    write_written(what, n, answer, room_changed(room))
+    write_written(what, n, answer, changed_bytes(room))
 }
 
 fn ask_write(what: &[u8], round: Round, n: usize) -> bool
@@ -218,7 +183,7 @@ fn ask_write(what: &[u8], round: Round, n: usize) -> bool
 {
     let mut room = [BYTE_BEFORE; BYTES];
     let answer = write_round(round, &mut room[0..n]);
-    write_written(what, n, answer, room_changed(room))
+    write_written(what, n, answer, changed_bytes(room))
 }
 
 fn with_a_fifth_part(mut round: Round) -> Round {
@@ -226,41 +191,41 @@ fn with_a_fifth_part(mut round: Round) -> Round {
     round
 }
 
-fn ask_files(file: [u8; WHOLE], n: usize, m: usize) -> bool
-    requires { (n ≤ 36) × (m ≤ 36) }
+fn ask_files(file: [u8; WHOLE], n: usize) -> bool
+    requires { n ≤ 36 }
 {
-    if !ask_file(b"file", &file, n, m) {
+    if !ask_file(b"file", &file, n) {
         return false;
     }
-    if !ask_file(b"odd file", &file[0..207], n, m) {
+    if !ask_file(b"odd file", &file[0..207], n) {
         return false;
     }
-    ask_file(b"empty file", &file[0..0], n, m)
+    ask_file(b"empty file", &file[0..0], n)
 }
 
 // The round that a file leads to.
-fn ask_read(what: &[u8], file: &[u8], n: usize, m: usize) -> bool
-    requires { (n ≤ 36) × (m ≤ 36) }
+fn ask_read(what: &[u8], file: &[u8], n: usize) -> bool
+    requires { n ≤ 36 }
 {
-    ask_round(what, read_file(file).round, n, m)
+    ask_round(what, read_file(file).round, n)
 }
 
-fn ask_changed(what: &[u8], file: &[u8], n: usize, m: usize) -> bool
-    requires { (n ≤ 36) × (m ≤ 36) }
+fn ask_changed(what: &[u8], file: &[u8], n: usize) -> bool
+    requires { n ≤ 36 }
 {
-    ask_round(what, with_a_fifth_part(read_file(file).round), n, m)
+    ask_round(what, with_a_fifth_part(read_file(file).round), n)
 }
 
-fn ask_rounds(file: [u8; WHOLE], n: usize, m: usize) -> bool
-    requires { (n ≤ 36) × (m ≤ 36) }
+fn ask_rounds(file: [u8; WHOLE], n: usize) -> bool
+    requires { n ≤ 36 }
 {
-    if !ask_read(b"round", &file, n, m) {
+    if !ask_read(b"round", &file, n) {
         return false;
     }
-    if !ask_read(b"fresh round", &file[0..0], n, m) {
+    if !ask_read(b"fresh round", &file[0..0], n) {
         return false;
     }
-    ask_changed(b"false round", &file, n, m)
+    ask_changed(b"false round", &file, n)
 }
 
 fn write_files(file: [u8; WHOLE], n: usize) -> bool
@@ -288,36 +253,25 @@ fn write_rounds(file: [u8; WHOLE], n: usize) -> bool
     ask_write(b"false round", with_a_fifth_part(round), n)
 }
 
-fn ask_lists(file: [u8; WHOLE]) -> bool {
-    for k in 0..7 {
-        if !ask_files(file, long(k), marks_long(k)) {
-            return false;
-        }
-        if !ask_rounds(file, long(k), marks_long(k)) {
-            return false;
-        }
+// The k-th length of a list, and of a room.
+fn ask_turn(file: [u8; WHOLE], k: u8) -> bool {
+    if !ask_files(file, long(k)) {
+        return false;
     }
-    true
-}
-
-fn ask_rooms(file: [u8; WHOLE]) -> bool {
-    for k in 0..4 {
-        if !write_files(file, room_long(k)) {
-            return false;
-        }
-        if !write_rounds(file, room_long(k)) {
-            return false;
-        }
+    if !ask_rounds(file, long(k)) {
+        return false;
     }
-    true
+    if !write_files(file, room_long(k)) {
+        return false;
+    }
+    write_rounds(file, room_long(k))
 }
 
 fn ask_all(file: [u8; WHOLE]) -> Outcome {
-    if !ask_lists(file) {
-        return Outcome::Fault;
-    }
-    if !ask_rooms(file) {
-        return Outcome::Fault;
+    for k in 0..4 {
+        if !ask_turn(file, k) {
+            return Outcome::Fault;
+        }
     }
     Outcome::Done
 }

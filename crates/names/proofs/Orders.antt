@@ -9,10 +9,10 @@ use Rattle.counting.proofs.Orders.{reordered_length, reordered_count}
 use Rattle.cards.specs.Card.{rank, suit}
 use Rattle.cards.proofs.Orders.{reordered_faulty}
 use Rattle.hands.specs.Hand.{of_rank, of_suit, hand_refusal}
-use Rattle.names.specs.Five.{five_by, name_five}
-use Rattle.names.specs.Board.{board_by, name_board}
-use Rattle.names.specs.Pocket.{pocket_by, name_pocket}
-use Rattle.names.specs.Lo.{lo_by, name_lo}
+use Rattle.names.specs.Five.{five_by, name_five, answer_five}
+use Rattle.names.specs.Board.{board_by, name_board, answer_board}
+use Rattle.names.specs.Pocket.{pocket_by, name_pocket, answer_pocket}
+use Rattle.names.specs.Lo.{lo_by, name_lo, answer_lo}
 
 module _ {xs ys : List ℕ} (other : Reordered xs ys) where
   -- whatever goes by how often ranks and suits occur
@@ -40,3 +40,19 @@ module _ {xs ys : List ℕ} (other : Reordered xs ys) where
   pub lo_reordered : name_lo xs ≡ name_lo ys
   unfolding name_lo
   lo_reordered = by_counts lo_by
+
+  pub answer_five_reordered : answer_five xs ≡ answer_five ys
+  unfolding answer_five
+  answer_five_reordered = rw (refusal_reordered 5, five_reordered)
+
+  pub answer_board_reordered : answer_board xs ≡ answer_board ys
+  unfolding answer_board
+  answer_board_reordered = rw (refusal_reordered 3, board_reordered)
+
+  pub answer_pocket_reordered : answer_pocket xs ≡ answer_pocket ys
+  unfolding answer_pocket
+  answer_pocket_reordered = rw (refusal_reordered 2, pocket_reordered)
+
+  pub answer_lo_reordered : answer_lo xs ≡ answer_lo ys
+  unfolding answer_lo
+  answer_lo_reordered = rw (refusal_reordered 5, lo_reordered)

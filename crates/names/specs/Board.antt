@@ -3,9 +3,6 @@
 use Rattle.std.specs.Prelude.{ℕ, ◌&&◌, List, [], ◌∷◌, eqb}
 use Rattle.counting.specs.Choose.{if◌then◌else◌}
 use Rattle.hands.specs.Hand.{of_rank, of_suit, of_aKind, flush, run, straight, hand_refusal}
-use Rattle.lights.specs.declared.Light.{Light}
-use Rattle.lights.specs.declared.Light.TheVariants.{All, Threes, Pairs, Dark}
-use Rattle.lights.specs.Lit.{lit_of, places}
 use Rattle.names.specs.Answer.{answer}
 use Rattle.names.specs.declared.BoardName.{BoardName}
 use Rattle.names.specs.declared.BoardName.TheVariants.{Royal, StraightFlush, ThreeOfAKind, Straight, Flush, Pair, Other}
@@ -27,26 +24,9 @@ board_by h t =
 unfoldable pub name_board : List ℕ → BoardName
 name_board cs = board_by (of_rank cs) (of_suit cs)
 
--- Which of its cards make the name: all of them for a royal, straight flush, straight or flush, the three or two equal ones otherwise, none for "other";
-abbrev pub board_light : BoardName → Light
-board_light Royal = All
-board_light StraightFlush = All
-board_light ThreeOfAKind = Threes
-board_light Straight = All
-board_light Flush = All
-board_light Pair = Pairs
-board_light Other = Dark
-
--- as one number, 1, 2, 4 for the first, second, third card
-unfoldable pub lit_board : List ℕ → ℕ
-lit_board cs = lit_of (board_light (name_board cs)) places cs
-
--- what is answered on any cards: both, or a refusal
-abbrev pub named_board : List ℕ → BoardAnswer
-named_board cs = Name (name_board cs) (lit_board cs)
-
+-- what is answered on any cards
 unfoldable pub answer_board : List ℕ → BoardAnswer
-answer_board cs = answer Refused (hand_refusal 3 cs) (named_board cs)
+answer_board cs = answer Name Refused (hand_refusal 3 cs) (name_board cs)
 
 -- a name's place in document 01's list, from 0
 abbrev pub board_place : BoardName → ℕ
@@ -60,10 +40,10 @@ board_place Other = 6
 
 -- this paper's number for each answer: the refusal's, and 0 for a name
 abbrev pub board_number : BoardAnswer → ℕ
-board_number (Name name lit) = 0
+board_number (Name name) = 0
 board_number (Refused number) = number
 
--- and its values: a name's place, and the cards that make it; a refusal has none
+-- and its values: a name's place; a refusal has none
 abbrev pub board_values : BoardAnswer → List ℕ
-board_values (Name name lit) = board_place name ∷ lit ∷ []
+board_values (Name name) = board_place name ∷ []
 board_values (Refused number) = []

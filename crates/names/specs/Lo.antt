@@ -3,9 +3,6 @@
 use Rattle.std.specs.Prelude.{ℕ, Bool, not, ◌&&◌, List, [], ◌∷◌, eqb}
 use Rattle.counting.specs.Choose.{if◌then◌else◌}
 use Rattle.hands.specs.Hand.{of_rank, of_suit, of_aKind, flush, straight, highest, hand_refusal}
-use Rattle.lights.specs.declared.Light.{Light}
-use Rattle.lights.specs.declared.Light.TheVariants.{Dark}
-use Rattle.lights.specs.Lit.{lit_of, places}
 use Rattle.names.specs.Answer.{answer}
 use Rattle.names.specs.declared.LoName.{LoName}
 use Rattle.names.specs.declared.LoName.TheVariants.{High, Nothing}
@@ -23,21 +20,9 @@ lo_by h t = if is_lo h t then High (highest 13 h) else Nothing
 unfoldable pub name_lo : List ℕ → LoName
 name_lo cs = lo_by (of_rank cs) (of_suit cs)
 
--- Which of its cards make the name: the high card, none for nothing;
-abbrev pub lo_light : LoName → Light
-lo_light (High rank) = Light.High rank
-lo_light Nothing = Dark
-
--- as one number, 1, 2, 4, .. for the first, second, third card
-unfoldable pub lit_lo : List ℕ → ℕ
-lit_lo cs = lit_of (lo_light (name_lo cs)) places cs
-
--- what is answered on any cards: both, or a refusal
-abbrev pub named_lo : List ℕ → LoAnswer
-named_lo cs = Name (name_lo cs) (lit_lo cs)
-
+-- what is answered on any cards
 unfoldable pub answer_lo : List ℕ → LoAnswer
-answer_lo cs = answer Refused (hand_refusal 5 cs) (named_lo cs)
+answer_lo cs = answer Name Refused (hand_refusal 5 cs) (name_lo cs)
 
 -- a name as a number: the high rank, and 13 for nothing
 abbrev pub lo_high : LoName → ℕ
@@ -46,10 +31,10 @@ lo_high Nothing = 13
 
 -- this paper's number for each answer: the refusal's, and 0 for a name
 abbrev pub lo_number : LoAnswer → ℕ
-lo_number (Name name lit) = 0
+lo_number (Name name) = 0
 lo_number (Refused number) = number
 
--- and its values: the name as a number, and the cards that make it; a refusal has none
+-- and its values: the name as a number; a refusal has none
 abbrev pub lo_values : LoAnswer → List ℕ
-lo_values (Name name lit) = lo_high name ∷ lit ∷ []
+lo_values (Name name) = lo_high name ∷ []
 lo_values (Refused number) = []

@@ -1,9 +1,8 @@
-// What hands are called, and which of their cards make the name: five cards, the board, a seat's two cards, and Lo Ball.
+// What hands are called: five cards, the board, a seat's two cards, and Lo Ball.
 //
-// name_five, name_board, name_pocket and name_lo are the entries: each answers any bytes with the name and the cards that make it, or with refusal
+// name_five, name_board, name_pocket and name_lo are the entries: each answers any bytes with the name or with refusal
 // 18 (another number of cards), then 11 (a card above 51, or a repeat). specs/ says what each answers, by how often
-// ranks and suits occur. The cards that make the name are one number over the hand's own places: 1, 2, 4, .. for the first, second, third card. five_light, board_light,
-// pocket_light and lo_light say for any name which they are.
+// ranks and suits occur.
 //
 // five_by_word, board_by_word, pocket_by_word and lo_by_word name five, three or two cards, any bytes, for callers that know them to be
 // sound. They count the ranks in one word (crate words): no hand is copied. five_of_word is for a caller that has the word already. five_of, board_of, pocket_of and lo_of name a list of any length,
@@ -14,12 +13,10 @@ ghost use Rattle.std.specs.Prelude.{◌≡◌, [], ◌∷◌, ℕ};
 ghost use Rattle.counting.specs.Choose.{if◌then◌else◌, unless_refused};
 ghost use Rattle.hands.specs.Hand.{of_rank, of_suit, flush, hand_refusal};
 ghost use Rattle.words.specs.Word.{Has};
-ghost use Rattle.names.specs.Five.{five_by, name_five, five_light, lit_five, named_five, answer_five, five_place, five_number, five_values};
-ghost use Rattle.names.specs.Board.{name_board, board_light, lit_board, named_board, answer_board, board_place, board_number, board_values};
-ghost use Rattle.names.specs.Pocket.{ace_face, name_pocket, pocket_light, lit_pocket, named_pocket, answer_pocket, pocket_place, pocket_number, pocket_values};
-ghost use Rattle.names.specs.Lo.{is_lo, name_lo, lo_light, lit_lo, named_lo, answer_lo, lo_high, lo_number, lo_values};
-
-use lights::Light;
+ghost use Rattle.names.specs.Five.{five_by, name_five, answer_five, five_place, five_number, five_values};
+ghost use Rattle.names.specs.Board.{name_board, answer_board, board_place, board_number, board_values};
+ghost use Rattle.names.specs.Pocket.{ace_face, name_pocket, answer_pocket, pocket_place, pocket_number, pocket_values};
+ghost use Rattle.names.specs.Lo.{is_lo, name_lo, answer_lo, lo_high, lo_number, lo_values};
 
 #[derive(Drop)]
 pub enum FiveName {
@@ -66,25 +63,25 @@ pub enum LoName {
 
 #[derive(Drop)]
 pub enum FiveAnswer {
-    Name { name: FiveName, lit: u8 },
+    Name(FiveName),
     Refused(u8),
 }
 
 #[derive(Drop)]
 pub enum BoardAnswer {
-    Name { name: BoardName, lit: u8 },
+    Name(BoardName),
     Refused(u8),
 }
 
 #[derive(Drop)]
 pub enum PocketAnswer {
-    Name { name: PocketName, lit: u8 },
+    Name(PocketName),
     Refused(u8),
 }
 
 #[derive(Drop)]
 pub enum LoAnswer {
-    Name { name: LoName, lit: u8 },
+    Name(LoName),
     Refused(u8),
 }
 
@@ -208,45 +205,16 @@ pub fn five_of(cards: &[u8]) -> FiveName
     )
 }
 
-// The cards that make a name.
-pub fn five_light(name: FiveName) -> Light
-    ensures { result ≡ five_light name }
-{
-    match name {
-        FiveName::RoyalFlush => Light::All,
-        FiveName::StraightFlush => Light::All,
-        FiveName::FourOfAKind => Light::Fours,
-        FiveName::FullHouse => Light::All,
-        FiveName::Flush => Light::All,
-        FiveName::Straight => Light::All,
-        FiveName::ThreeOfAKind => Light::Threes,
-        FiveName::TwoPair => Light::Pairs,
-        FiveName::JacksToAces => Light::Pairs,
-        FiveName::SixesToTens => Light::Pairs,
-        FiveName::Other => Light::Dark,
-    }
-}
-
-fn five_answered(a: u8, b: u8, c: u8, d: u8, e: u8) -> FiveAnswer
-    ensures { result ≡ named_five (a ∷ b ∷ c ∷ d ∷ e ∷ []) }
-{
-    let word = words::word5(a, b, c, d, e);
-    let name = five_of_word(word, words::is_suited5(a, b, c, d, e));
-    let ranks = lights::ranks_of(five_light(name), word);
-    let lit = lights::sum5(ranks, a, b, c, d, e);
-    FiveAnswer::Name { name, lit }
-}
-
 pub fn name_five(cards: &[u8]) -> FiveAnswer
     ensures answer { result ≡ answer_five cards.now }
     ensures number { five_number result ≡ hand_refusal 5 cards.now }
-    ensures values { five_values result ≡ unless_refused (hand_refusal 5 cards.now) (five_place (name_five cards.now) ∷ lit_five cards.now ∷ []) }
+    ensures values { five_values result ≡ unless_refused (hand_refusal 5 cards.now) (five_place (name_five cards.now) ∷ []) }
 {
     let refusal = hands::hand_refusal(cards, 5);
     if refusal != 0 {
         return FiveAnswer::Refused(refusal);
     }
-    five_answered(cards[0], cards[1], cards[2], cards[3], cards[4])
+    FiveAnswer::Name(five_by_word(cards[0], cards[1], cards[2], cards[3], cards[4]))
 }
 
 // A name's place among the names of five cards, from 0 for the highest.
@@ -335,39 +303,16 @@ pub fn board_of(cards: &[u8]) -> BoardName
     )
 }
 
-pub fn board_light(name: BoardName) -> Light
-    ensures { result ≡ board_light name }
-{
-    match name {
-        BoardName::Royal => Light::All,
-        BoardName::StraightFlush => Light::All,
-        BoardName::ThreeOfAKind => Light::Threes,
-        BoardName::Straight => Light::All,
-        BoardName::Flush => Light::All,
-        BoardName::Pair => Light::Pairs,
-        BoardName::Other => Light::Dark,
-    }
-}
-
-fn board_answered(a: u8, b: u8, c: u8) -> BoardAnswer
-    ensures { result ≡ named_board (a ∷ b ∷ c ∷ []) }
-{
-    let name = board_by_word(a, b, c);
-    let ranks = lights::ranks_of(board_light(name), words::word3(a, b, c));
-    let lit = lights::sum3(ranks, a, b, c);
-    BoardAnswer::Name { name, lit }
-}
-
 pub fn name_board(cards: &[u8]) -> BoardAnswer
     ensures answer { result ≡ answer_board cards.now }
     ensures number { board_number result ≡ hand_refusal 3 cards.now }
-    ensures values { board_values result ≡ unless_refused (hand_refusal 3 cards.now) (board_place (name_board cards.now) ∷ lit_board cards.now ∷ []) }
+    ensures values { board_values result ≡ unless_refused (hand_refusal 3 cards.now) (board_place (name_board cards.now) ∷ []) }
 {
     let refusal = hands::hand_refusal(cards, 3);
     if refusal != 0 {
         return BoardAnswer::Refused(refusal);
     }
-    board_answered(cards[0], cards[1], cards[2])
+    BoardAnswer::Name(board_by_word(cards[0], cards[1], cards[2]))
 }
 
 // One ace, and one of jack, queen and king.
@@ -425,37 +370,16 @@ pub fn pocket_of(cards: &[u8]) -> PocketName
     )
 }
 
-pub fn pocket_light(name: PocketName) -> Light
-    ensures { result ≡ pocket_light name }
-{
-    match name {
-        PocketName::Aces => Light::Pairs,
-        PocketName::AceFaceSuited => Light::All,
-        PocketName::AceFace => Light::All,
-        PocketName::OtherPair => Light::Pairs,
-        PocketName::Nothing => Light::Dark,
-    }
-}
-
-fn pocket_answered(a: u8, b: u8) -> PocketAnswer
-    ensures { result ≡ named_pocket (a ∷ b ∷ []) }
-{
-    let name = pocket_by_word(a, b);
-    let ranks = lights::ranks_of(pocket_light(name), words::word2(a, b));
-    let lit = lights::sum2(ranks, a, b);
-    PocketAnswer::Name { name, lit }
-}
-
 pub fn name_pocket(cards: &[u8]) -> PocketAnswer
     ensures answer { result ≡ answer_pocket cards.now }
     ensures number { pocket_number result ≡ hand_refusal 2 cards.now }
-    ensures values { pocket_values result ≡ unless_refused (hand_refusal 2 cards.now) (pocket_place (name_pocket cards.now) ∷ lit_pocket cards.now ∷ []) }
+    ensures values { pocket_values result ≡ unless_refused (hand_refusal 2 cards.now) (pocket_place (name_pocket cards.now) ∷ []) }
 {
     let refusal = hands::hand_refusal(cards, 2);
     if refusal != 0 {
         return PocketAnswer::Refused(refusal);
     }
-    pocket_answered(cards[0], cards[1])
+    PocketAnswer::Name(pocket_by_word(cards[0], cards[1]))
 }
 
 fn is_lo(cards: &[u8]) -> bool
@@ -497,32 +421,14 @@ pub fn lo_of(cards: &[u8]) -> LoName
     LoName::Nothing
 }
 
-pub fn lo_light(name: LoName) -> Light
-    ensures { result ≡ lo_light name }
-{
-    match name {
-        LoName::High(top) => Light::High(top),
-        LoName::Nothing => Light::Dark,
-    }
-}
-
-fn lo_answered(a: u8, b: u8, c: u8, d: u8, e: u8) -> LoAnswer
-    ensures { result ≡ named_lo (a ∷ b ∷ c ∷ d ∷ e ∷ []) }
-{
-    let name = lo_by_word(a, b, c, d, e);
-    let ranks = lights::ranks_of(lo_light(name), words::word5(a, b, c, d, e));
-    let lit = lights::sum5(ranks, a, b, c, d, e);
-    LoAnswer::Name { name, lit }
-}
-
 pub fn name_lo(cards: &[u8]) -> LoAnswer
     ensures answer { result ≡ answer_lo cards.now }
     ensures number { lo_number result ≡ hand_refusal 5 cards.now }
-    ensures values { lo_values result ≡ unless_refused (hand_refusal 5 cards.now) (lo_high (name_lo cards.now) ∷ lit_lo cards.now ∷ []) }
+    ensures values { lo_values result ≡ unless_refused (hand_refusal 5 cards.now) (lo_high (name_lo cards.now) ∷ []) }
 {
     let refusal = hands::hand_refusal(cards, 5);
     if refusal != 0 {
         return LoAnswer::Refused(refusal);
     }
-    lo_answered(cards[0], cards[1], cards[2], cards[3], cards[4])
+    LoAnswer::Name(lo_by_word(cards[0], cards[1], cards[2], cards[3], cards[4]))
 }

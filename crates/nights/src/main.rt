@@ -1,12 +1,12 @@
 // Answers a stream of shifts, as the functions for C and Rust do, to be compared with what another settler answers.
 //
-// A shift of the stream comes after four numbers of two bytes, low byte first: how many amounts it is lent, at most 4096, how many marks, at most 4096, how many answers, at most
-// 256, and how many bytes it has. Before the call each place of the lists holds the largest number. Printed is a line for each shift: `rounds` with how many it has, then `settled` with
-// how many its answer tells, or `refused N at R` with the refusal's number and place, and `kept` where the three lists are still as they were, `changed` where they aren't. Of a settled
-// shift comes a line for each round: `answer` with its two numbers, `amounts` with its 35 and `lit` with its 35 marks. A stream that ends inside a shift, or lends more, is told on standard error.
+// A shift of the stream comes after three numbers of two bytes, low byte first: how many amounts it is lent, at most 4096, how many answers, at most 256, and how many bytes it has.
+// Both lists hold a mark before the call. Printed is a line for each shift: `rounds` with how many it has, then `settled` with how many its answer tells, or `refused N at R` with the
+// refusal's number and place, and `kept` where both lists are still as they were, `changed` where they aren't. Of a settled shift comes a line for each round: `answer` with its
+// two numbers and `amounts` with its 35. A stream that ends inside a shift, or lends more, is told on standard error.
 //
 // Example:
-//     printf '\0\0\0\0\2\0\1\0x' | ./run nights
+//     printf '\0\0\2\0\1\0x' | ./run nights
 // prints
 //     rounds 0 refused 2 at 0 kept
 //
@@ -19,7 +19,7 @@ use records::word_at;
 use results::RESULTS;
 use ripplehatch::{ripplehatch_count_rounds, ripplehatch_settle_shift};
 use shifts::ANSWER;
-use text::{put_bytes, put_list, put_named, put_small};
+use text::{put_bytes, put_line, put_list, put_named};
 
 const NAME: [u8; 6] = *b"nights";
 
@@ -28,15 +28,10 @@ const MOST_SHIFTS: usize = 1099511627776;
 
 const AMOUNTS: usize = 4096;
 
-const MARKS: usize = 4096;
-
 const ANSWERS: usize = 256;
 
 // What the lists hold before the call: no amount of a settled round, nor a number or a place of a refused one, is as large.
-const BEFORE: u64 = 18446744073709551615;
-
-// The same of the marks: none is above 63.
-const MARK_BEFORE: u8 = 255;
+const MARK: u64 = 18446744073709551615;
 
 // What became of one turn.
 #[derive(Drop)]
@@ -51,7 +46,6 @@ enum Turn {
 enum Next {
     Shift {
         amounts: u16,
-        marks: u16,
         answers: u16,
         bytes: u16,
     },
@@ -59,22 +53,11 @@ enum Next {
     Fault,
 }
 
-// Every number of the list is as it was.
+// Every number of the list is the mark.
 fn is_kept(list: &[u64]) -> bool {
     let mut i = 0;
     while i < list.len() {
-        if list[i] != BEFORE {
-            return false;
-        }
-        i += 1;
-    }
-    true
-}
-
-fn are_kept(marks: &[u8]) -> bool {
-    let mut i = 0;
-    while i < marks.len() {
-        if marks[i] != MARK_BEFORE {
+        if list[i] != MARK {
             return false;
         }
         i += 1;
@@ -102,77 +85,61 @@ fn write_refused(count: usize, number: u8, place: usize, kept: bool) -> Turn {
     written(&line, last)
 }
 
-// A line is 37 numbers of at most 20 digits and 35 of at most 3, so it fits its room.
-fn write_round(amounts: &[u64], marks: &[u8], answer: &[u64]) -> bool {
+// A line is 37 numbers of at most 20 digits, so it fits its room.
+fn write_round(amounts: &[u64], answer: &[u64]) -> bool {
     let mut line = [0u8; 1024];
     let told = put_list(&mut line, 0, b"answer", answer);
-    let paid = put_list(&mut line, told, b" amounts", amounts);
-    let lit = put_small(&mut line, paid, b" lit", marks);
-    let last = put_bytes(&mut line, lit, b"\n");
+    let last = put_line(&mut line, told, b" amounts", amounts);
     print(&NAME, &line, last)
 }
 
-// The lists have a row for each round.
-fn write_rounds(amounts: &[u64], marks: &[u8], answers: &[u64]) -> Turn {
+// Both lists have a row for each round.
+fn write_rounds(amounts: &[u64], answers: &[u64]) -> Turn {
     let mut paid = amounts;
-    let mut lit = marks;
     let mut told = answers;
     while RESULTS <= paid.len() {
-        if lit.len() < RESULTS {
-            return Turn::Fault;
-        }
         if told.len() < ANSWER {
             return Turn::Fault;
         }
-        if !write_round(&paid[..RESULTS], &lit[..RESULTS], &told[..ANSWER]) {
+        if !write_round(&paid[..RESULTS], &told[..ANSWER]) {
             return Turn::Fault;
         }
         paid = &paid[RESULTS..];
-        lit = &lit[RESULTS..];
         told = &told[ANSWER..];
     }
     Turn::Answered
 }
 
-fn write_settled(
-    count: usize,
-    rounds: usize,
-    amounts: &[u64],
-    marks: &[u8],
-    answers: &[u64],
-) -> Turn {
+fn write_settled(count: usize, rounds: usize, amounts: &[u64], answers: &[u64]) -> Turn {
     let mut line = [0u8; 128];
     let counted = put_named(&mut line, 0, b"rounds ", count as u64);
     let settled = put_named(&mut line, counted, b" settled ", rounds as u64);
     let last = put_bytes(&mut line, settled, b"\n");
     if print(&NAME, &line, last) {
-        return write_rounds(amounts, marks, answers);
+        return write_rounds(amounts, answers);
     }
     Turn::Fault
 }
 
-fn settle(file: &[u8], amounts: usize, marks: usize, answers: usize) -> Turn
-    requires { (amounts ≤ 4096) × ((marks ≤ 4096) × (answers ≤ 256)) }
+fn settle(file: &[u8], amounts: usize, answers: usize) -> Turn
+    requires { (amounts ≤ 4096) × (answers ≤ 256) }
 {
-    let mut room = [BEFORE; AMOUNTS];
-    let mut lights = [MARK_BEFORE; MARKS];
-    let mut told = [BEFORE; ANSWERS];
+    let mut room = [MARK; AMOUNTS];
+    let mut told = [MARK; ANSWERS];
     let lent: &mut [u64] = &mut room[..amounts];
-    let lit: &mut [u8] = &mut lights[..marks];
     let said: &mut [u64] = &mut told[..answers];
     let mut rounds = 0;
     let mut place = 0;
-    let number = ripplehatch_settle_shift(file, lent, lit, said, &mut rounds, &mut place);
+    let number = ripplehatch_settle_shift(file, lent, said, &mut rounds, &mut place);
     let count = ripplehatch_count_rounds(file);
     if number == 0 {
-        return write_settled(count, rounds, lent, lit, said);
+        return write_settled(count, rounds, lent, said);
     }
-    let kept = is_kept(lent) & are_kept(lit) & is_kept(said);
-    write_refused(count, number, place, kept)
+    write_refused(count, number, place, is_kept(lent) & is_kept(said))
 }
 
 fn next_shift() -> Next {
-    let mut head = [0u8; 8];
+    let mut head = [0u8; 6];
     let got = read_into(&mut head);
     if got.failed {
         tell_unread(&NAME);
@@ -181,32 +148,25 @@ fn next_shift() -> Next {
     if got.bytes == 0 {
         return Next::End;
     }
-    if got.bytes < 8 {
+    if got.bytes < 6 {
         tell(&NAME, b"the stream ends before a shift's bytes");
         return Next::Fault;
     }
     Next::Shift {
         amounts: word_at(&head, 0),
-        marks: word_at(&head, 2),
-        answers: word_at(&head, 4),
-        bytes: word_at(&head, 6),
+        answers: word_at(&head, 2),
+        bytes: word_at(&head, 4),
     }
 }
 
 fn too_long() -> Turn {
-    tell(
-        &NAME,
-        b"lends at most 4096 amounts, 4096 marks and 256 answers",
-    );
+    tell(&NAME, b"lends at most 4096 amounts and 256 answers");
     Turn::Fault
 }
 
 // Reads a shift that fills the list, and answers it.
-fn answer_shift(file: &mut [u8], amounts: usize, marks: usize, answers: usize) -> Turn {
+fn answer_shift(file: &mut [u8], amounts: usize, answers: usize) -> Turn {
     if AMOUNTS < amounts {
-        return too_long();
-    }
-    if MARKS < marks {
         return too_long();
     }
     if ANSWERS < answers {
@@ -221,7 +181,7 @@ fn answer_shift(file: &mut [u8], amounts: usize, marks: usize, answers: usize) -
         tell(&NAME, b"the stream ends inside a shift");
         return Turn::Fault;
     }
-    settle(file, amounts, marks, answers)
+    settle(file, amounts, answers)
 }
 
 fn answer_next(room: &mut [u8]) -> Turn
@@ -230,13 +190,11 @@ fn answer_next(room: &mut [u8]) -> Turn
     match next_shift() {
         Next::Shift {
             amounts,
-            marks,
             answers,
             bytes,
         } => answer_shift(
             &mut room[0..bytes as usize],
             amounts as usize,
-            marks as usize,
             answers as usize,
         ),
         Next::End => Turn::End,

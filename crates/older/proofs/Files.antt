@@ -21,7 +21,7 @@ use Rattle.led.specs.Held.{is_held}
 use Rattle.reading.specs.declared.Reading.{Reading}
 use Rattle.reading.specs.File.{stop, read_by, file_records, read_file}
 use Rattle.reading.proofs.Readings.{read_held}
-use Rattle.results.specs.Results.{results}
+use Rattle.results.specs.Results.{results_long}
 use Rattle.settlement.specs.declared.FileSettlement.TheVariants.{Paid, Refused}
 use Rattle.settlement.specs.Settle.{settle_refusal, read_refusal, read_place, read_answer, read_list, file_answer, file_list, file_number}
 use Rattle.settlement.proofs.Answers.{file_number_lem}
@@ -99,7 +99,7 @@ old_unoffered l e = rw (old_read l e) (go (eqb (length l % 16) 0))
     go false = refl
 
 -- what a reading is answered, where the round that is then held offers no All-Six
-reading_answer : (w : Reading) → is_held w.round ≡ true → w.round.table.six ≡ 0 → read_answer w true ≡ old_answer w
+reading_answer : (w : Reading) → is_held w.round ≡ true → w.round.table.six ≡ 0 → read_answer w results_long ≡ old_answer w
 unfolding read_answer read_refusal settle_refusal read_place old_answer
 reading_answer w held none = simp (held, same_pool w.round none) (go (eqb w.number 0) refl (is_finished w.round))
   where
@@ -111,14 +111,14 @@ reading_answer w held none = simp (held, same_pool w.round none) (go (eqb w.numb
     go true e false = refl
     go false e f = simp e
 
-pub old_answer_lem : (l : List ℕ) → Older l → file_answer l true ≡ old_file_answer l
+pub old_answer_lem : (l : List ℕ) → Older l → file_answer l results_long ≡ old_file_answer l
 old_answer_lem l e = reading_answer (read_file l) (read_held l) (old_unoffered l e) ∙ ap old_answer (old_read l e)
 
-pub old_list : (l lent : List ℕ) → Older l → file_number (file_answer l true) ≡ 0 → file_list results l true lent ≡ widened (old_file_results l)
+pub old_list : (l lent : List ℕ) → Older l → length lent ≡ results_long → file_number (file_answer l results_long) ≡ 0 → file_list l lent ≡ widened (old_file_results l)
 unfolding read_list
-old_list l lent e z =
-    let paid : read_refusal (read_file l) true ≡ 0 = sym (file_number_lem (read_file l) true) ∙ z in
-    simp paid (same_results (read_file l).round (old_unoffered l e) ∙ ap (λ (w : Reading). widened (old_results w.round)) (old_read l e))
+old_list l lent e long z =
+    let paid : read_refusal (read_file l) results_long ≡ 0 = sym (file_number_lem (read_file l) results_long) ∙ z in
+    simp (long, paid) (same_results (read_file l).round (old_unoffered l e) ∙ ap (λ (w : Reading). widened (old_results w.round)) (old_read l e))
 
 pub old_long : (r : Round) → length (old_results r) ≡ 28
 unfolding old_results old_amounts

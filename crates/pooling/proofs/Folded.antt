@@ -14,8 +14,7 @@ use Rattle.names.specs.Five.{five_by, name_five}
 use Rattle.names.specs.Board.{board_by, name_board}
 use Rattle.names.specs.Pocket.{pocket_by, name_pocket}
 use Rattle.names.specs.Lo.{is_lo, lo_by, name_lo}
-use Rattle.lights.specs.Lit.{without}
-use Rattle.allsix.specs.Six.{higher, best_up_to, six_royal, name_six}
+use Rattle.allsix.specs.Six.{without, higher, best_up_to, six_royal, name_six}
 use Rattle.odds.specs.Tables.{lo_lines, board_lines, pocket_lines, six_lines}
 use Rattle.odds.specs.Pays.{pay_in, lo_pay, board_pay, pocket_pay, six_pay}
 use Rattle.seating.specs.Table.{limits_fit, tables_fit, is_blank, table_fits}

@@ -23,8 +23,7 @@ use Rattle.hands.proofs.Refusals.{sound_hand}
 use Rattle.holding.specs.Deal.{playing_before, dealers_first, hole_at, community_at, hole, community, six_card, six_hand}
 use Rattle.names.specs.Answer.{answer}
 use Rattle.allsix.specs.declared.SixAnswer.TheVariants.{Name}
-use Rattle.allsix.specs.Six.{name_six, lit_six, answer_six}
-use Rattle.amounts.specs.Marks.{six_of}
+use Rattle.allsix.specs.Six.{name_six, answer_six}
 use Rattle.round.specs.declared.Round.{Round}
 use Rattle.round.specs.Order.{is_finished}
 use Rattle.led.specs.Led.{Led}
@@ -102,8 +101,8 @@ module _ (offer : ℕ) (antes cards : List ℕ) (whole : whole_deck cards ≡ tr
   unfolding six_hand six_card community hole faulty
   six_sound = sound_hand 6 (six_hand offer antes cards k) refl (simp (six_cards, six_once))
 
--- so in a finished round that accepted records lead to name_six answers the name that a playing seat's wager is settled by, and the cards that are lit for it
+-- so in a finished round that accepted records lead to name_six answers the name that a playing seat's wager is settled by
 pub six_answered : (r : Round) → Led r → is_finished r ≡ true → (k : ℕ) → k < 7 → plays r.wagers.antes k ≡ true
-    → answer_six (six_of r k) ≡ Name (name_six (six_of r k)) (lit_six (six_of r k))
+    → answer_six (six_hand r.table.six r.wagers.antes r.deck.cards k) ≡ Name (name_six (six_hand r.table.six r.wagers.antes r.deck.cards k))
 unfolding answer_six answer
 six_answered r l e k h p = simp (six_sound r.table.six r.wagers.antes r.deck.cards (led_deck r l (finished_dealt r e)) k h p)

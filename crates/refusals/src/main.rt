@@ -36,35 +36,35 @@ const SOUND: [u8; 6] = [0, 5, 10, 15, 20, 25];
 // An answer's number: the refusal's, or 0 for a name.
 fn five_number(cards: &[u8]) -> u8 {
     match names::name_five(cards) {
-        FiveAnswer::Name { name, lit } => 0,
+        FiveAnswer::Name(_) => 0,
         FiveAnswer::Refused(number) => number,
     }
 }
 
 fn lo_number(cards: &[u8]) -> u8 {
     match names::name_lo(cards) {
-        LoAnswer::Name { name, lit } => 0,
+        LoAnswer::Name(_) => 0,
         LoAnswer::Refused(number) => number,
     }
 }
 
 fn board_number(cards: &[u8]) -> u8 {
     match names::name_board(cards) {
-        BoardAnswer::Name { name, lit } => 0,
+        BoardAnswer::Name(_) => 0,
         BoardAnswer::Refused(number) => number,
     }
 }
 
 fn pocket_number(cards: &[u8]) -> u8 {
     match names::name_pocket(cards) {
-        PocketAnswer::Name { name, lit } => 0,
+        PocketAnswer::Name(_) => 0,
         PocketAnswer::Refused(number) => number,
     }
 }
 
 fn six_number(cards: &[u8]) -> u8 {
     match allsix::name_six(cards) {
-        SixAnswer::Name { name, lit } => 0,
+        SixAnswer::Name(_) => 0,
         SixAnswer::Refused(number) => number,
     }
 }

@@ -9,7 +9,7 @@ use Rattle.counting.proofs.Gathers.{gather-length, gather_at, each_at}
 use Rattle.pool.proofs.Pools.{shares_small}
 use Rattle.round.specs.declared.Round.{Round}
 use Rattle.amounts.specs.Base.{base_wager, pooled, win, kept, wins}
-use Rattle.results.specs.Results.{maximum, pool, base_amount, seat_wagers, seat_amounts, results_long, results, seat_marks, result_marks}
+use Rattle.results.specs.Results.{maximum, pool, base_amount, seat_wagers, seat_amounts, results_long, results}
 
 module _ (r : Round) where
   -- ---- the shares
@@ -56,15 +56,6 @@ module _ (r : Round) where
   pub results-length : length (results r) ≡ results_long
   unfolding results
   results-length = gather-length seat_wagers (seat_amounts r) 7 seat_long
-
-  -- and the list of marks
-  pub marks_long : (k : ℕ) → k < 7 → length (seat_marks r k) ≡ seat_wagers
-  unfolding seat_marks
-  marks_long k h = refl
-
-  pub marks_length : length (result_marks r) ≡ results_long
-  unfolding result_marks
-  marks_length = gather-length seat_wagers (seat_marks r) 7 marks_long
 
   -- amount w of the seat at place k, and the base amount
   pub amount_at : (k w : ℕ) → k < 7 → w < seat_wagers → get_or (results r) (seat_wagers * k + w) 0 ≡ get_or (seat_amounts r k) w 0

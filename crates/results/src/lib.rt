@@ -1,13 +1,13 @@
-// The results of a round by value: the pool, full and as paid, and the amounts and the marks of the seven seats.
+// The results of a round by value: the pool, full and as paid, and the amounts of the seven seats.
 //
 // results_of answers for any round. Wins beyond the pool's limits, which no accepted records lead to, are refused by the pool and share
-// nothing. specs/Results.antt has the pool, the results list and the list of marks.
+// nothing. specs/Results.antt has the pool and the results list.
 ghost use Rattle.std.specs.Prelude.{◌≡◌, ◌<◌};
-ghost use Rattle.results.specs.Results.{maximum, base_amount, judged_of, seat_of, lists_of, results_of};
+ghost use Rattle.results.specs.Results.{maximum, base_amount, results, judged_of, amounts_of, results_of};
 
-use amounts::{
-    Board, Side, base_wager, bases_of, board_of, board_side, lo_side, pocket_side, six_side,
-};
+use amounts::{base_wager, bases_of, board_pay_of, lo_amount, pocket_amount, six_amount};
+use counting::at7;
+use pays::{Pay, handed_back};
 use pool::{Pool, pool_of};
 use round::Round;
 use seating::Table;
@@ -26,35 +26,25 @@ pub struct Results {
     pub paid: u64,
     // The results list, in cents.
     pub amounts: [u64; RESULTS],
-    // The cards lit, at the same places.
-    pub marks: [u8; RESULTS],
 }
 
-// What is worked out once for all seats: the wins in the pool, what comes back besides, the marks of the base wagers, the pool, and the Board.
+// What is worked out once for all seats: the wins in the pool, what comes back besides, the pool, and what the Board pays.
 #[derive(Drop)]
 pub struct Judged {
     pub wins: [u64; 7],
     pub kept: [u64; 7],
-    pub marks: [u8; 7],
     pub pool: Pool,
-    pub board: Board,
+    pub board: Pay,
 }
 
-// What each wager of a seat hands back, and its mark.
+// The amounts of a seat.
 #[derive(Drop)]
-pub struct Seat {
-    pub base: Side,
-    pub board: Side,
-    pub pocket: Side,
-    pub lo: Side,
-    pub six: Side,
-}
-
-// The amounts and the marks of the seven seats.
-#[derive(Drop)]
-pub struct Lists {
-    pub amounts: [u64; RESULTS],
-    pub marks: [u8; RESULTS],
+pub struct Amounts {
+    pub base: u64,
+    pub board: u64,
+    pub pocket: u64,
+    pub lo: u64,
+    pub six: u64,
 }
 
 // The round maximum of a table, in dollars.
@@ -70,13 +60,11 @@ fn judge(round: Round) -> Judged
     let bases = bases_of(round);
     let wins = bases.wins;
     let kept = bases.kept;
-    let marks = bases.marks;
     let pool = pool_of(wins, maximum_of(round.table));
-    let board = board_of(round);
+    let board = board_pay_of(round);
     Judged {
         wins,
         kept,
-        marks,
         pool,
         board,
     }
@@ -96,20 +84,18 @@ fn base_amount(round: Round, judged: Judged, k: u8) -> u64
     kept[at]
 }
 
-fn seat_of(round: Round, judged: Judged, k: u8) -> Seat
+fn amounts_of(round: Round, judged: Judged, k: u8) -> Amounts
     requires { (k < 7) × (judged ≡ judged_of round) }
-    ensures { result ≡ seat_of round k }
+    ensures { result ≡ amounts_of round k }
 {
-    let marks = judged.marks;
-    let base = Side {
-        amount: base_amount(round, judged, k),
-        mark: marks[k as usize],
-    };
-    let board = board_side(round, judged.board, k);
-    let pocket = pocket_side(round, k);
-    let lo = lo_side(round, k);
-    let six = six_side(round, k);
-    Seat {
+    let placed = round.wagers.board;
+    let pay = judged.board;
+    let base = base_amount(round, judged, k);
+    let board = handed_back(pay, at7(placed, k as usize) as u32);
+    let pocket = pocket_amount(round, k);
+    let lo = lo_amount(round, k);
+    let six = six_amount(round, k);
+    Amounts {
         base,
         board,
         pocket,
@@ -118,45 +104,36 @@ fn seat_of(round: Round, judged: Judged, k: u8) -> Seat
     }
 }
 
-fn lists_of(round: Round, judged: Judged) -> Lists
+fn list_of(round: Round, judged: Judged) -> [u64; RESULTS]
     requires { judged ≡ judged_of round }
-    ensures { result ≡ lists_of round }
+    ensures { result ≡ results round }
 {
-    let mut amounts = [0u64; RESULTS];
-    let mut marks = [0u8; RESULTS];
+    let mut list = [0u64; RESULTS];
     let mut k = 0;
     while k < 7 {
-        let seat = seat_of(round, judged, k as u8);
+        let seat = amounts_of(round, judged, k as u8);
         let at = SEAT_WAGERS * k;
-        amounts[at] = seat.base.amount;
-        amounts[at + 1] = seat.board.amount;
-        amounts[at + 2] = seat.pocket.amount;
-        amounts[at + 3] = seat.lo.amount;
-        amounts[at + 4] = seat.six.amount;
-        marks[at] = seat.base.mark;
-        marks[at + 1] = seat.board.mark;
-        marks[at + 2] = seat.pocket.mark;
-        marks[at + 3] = seat.lo.mark;
-        marks[at + 4] = seat.six.mark;
+        list[at] = seat.base;
+        list[at + 1] = seat.board;
+        list[at + 2] = seat.pocket;
+        list[at + 3] = seat.lo;
+        list[at + 4] = seat.six;
         k += 1;
     }
-    Lists { amounts, marks }
+    list
 }
 
-// The pool, the results list and the list of marks of a round.
+// The pool and the results list of a round.
 pub fn results_of(round: Round) -> Results
     ensures { result ≡ results_of round }
 {
     let judged = judge(round);
     let full = judged.pool.full;
     let paid = judged.pool.paid;
-    let lists = lists_of(round, judged);
-    let amounts = lists.amounts;
-    let marks = lists.marks;
+    let amounts = list_of(round, judged);
     Results {
         full,
         paid,
         amounts,
-        marks,
     }
 }

@@ -27,20 +27,10 @@ place_told (RefusedFile number place) was = place
 
 -- a name's place in the list of names
 abbrev pub name_told : FiveAnswer → ℕ → ℕ
-name_told (Name name lit) was = five_place name
+name_told (Name name) was = five_place name
 name_told (Refused number) was = was
-
--- and the cards that make it
-abbrev pub lit_told : FiveAnswer → ℕ → ℕ
-lit_told (Name name lit) was = lit
-lit_told (Refused number) was = was
 
 -- a Lo Ball name's high rank, and 13 for nothing
 abbrev pub lo_told : LoAnswer → ℕ → ℕ
-lo_told (NameLo name lit) was = lo_high name
+lo_told (NameLo name) was = lo_high name
 lo_told (RefusedLo number) was = was
-
--- and the card that makes it
-abbrev pub lo_lit : LoAnswer → ℕ → ℕ
-lo_lit (NameLo name lit) was = lit
-lo_lit (RefusedLo number) was = was

@@ -3,7 +3,7 @@
 // ripplehatch.h declares them. Each answers a refusal's number, or 0, and tells the rest in what the caller lends; what is not told is left as it was,
 // so a refusal changes nothing that was lent but the place. None has a `requires`.
 ghost use Rattle.std.specs.Prelude.{◌≡◌, ◌*◌, length};
-ghost use Rattle.allsix.specs.Six.{answer_six, six_told, six_lit};
+ghost use Rattle.allsix.specs.Six.{answer_six, six_told};
 ghost use Rattle.cutting.specs.Rounds.{round_count};
 ghost use Rattle.hands.specs.Hand.{hand_refusal};
 ghost use Rattle.filing.specs.Filed.{file_take_refusal, file_takes, finished_told, rewrite_refusal, rewrite_list};
@@ -11,10 +11,9 @@ ghost use Rattle.names.specs.Five.{answer_five, five_number};
 ghost use Rattle.names.specs.Lo.{answer_lo, lo_high, lo_number};
 ghost use Rattle.pool.specs.Pool.{share_answer, share_list, number_of};
 ghost use Rattle.reading.specs.File.{read_file, refused_part};
-ghost use Rattle.results.specs.Results.{results, result_marks};
-ghost use Rattle.settlement.specs.Settle.{both_fit, file_answer, file_list, file_number};
-ghost use Rattle.shifts.specs.Shift.{round_amounts, round_marks, round_answer, lists_fit, shift_refusal, shift_answer, shift_list, rounds_told, place_told as shiftPlaceTold};
-ghost use Rattle.ripplehatch.specs.Told.{full_told, paid_told, place_told, name_told, lit_told, lo_told, lo_lit};
+ghost use Rattle.settlement.specs.Settle.{file_answer, file_list, file_number};
+ghost use Rattle.shifts.specs.Shift.{round_amounts, round_answer, lists_fit, shift_refusal, shift_answer, shift_list, rounds_told, place_told as shiftPlaceTold};
+ghost use Rattle.ripplehatch.specs.Told.{full_told, paid_told, place_told, name_told, lo_told};
 
 use allsix::name_six_told;
 use cutting::count_rounds;
@@ -52,25 +51,23 @@ fn place_told(answer: FileSettlement, was: usize) -> usize
     }
 }
 
-// Settles a file into a list of 35 amounts and one of 35 marks. Answers 0 and tells the pool in dollars, full and as paid; or answers the refusal's number and tells its
+// Settles a file into a list of 35 numbers. Answers 0 and tells the pool in dollars, full and as paid; or answers the refusal's number and tells its
 // place.
 #[unsafe(no_mangle)]
 pub extern "C" fn ripplehatch_settle_file(
     file: &[u8],
-    amounts: &mut [u64],
-    marks: &mut [u8],
+    results: &mut [u64],
     full: &mut u64,
     paid: &mut u64,
     place: &mut usize,
 ) -> u8
-    ensures number { result ≡ file_number (file_answer file.now (both_fit amounts.old marks.old)) }
-    ensures amounts { amounts.new ≡ file_list results file.now (both_fit amounts.old marks.old) amounts.old }
-    ensures marks { marks.new ≡ file_list result_marks file.now (both_fit amounts.old marks.old) marks.old }
-    ensures full { full.new ≡ full_told (file_answer file.now (both_fit amounts.old marks.old)) full.old }
-    ensures paid { paid.new ≡ paid_told (file_answer file.now (both_fit amounts.old marks.old)) paid.old }
-    ensures place { place.new ≡ place_told (file_answer file.now (both_fit amounts.old marks.old)) place.old }
+    ensures number { result ≡ file_number (file_answer file.now (length results.old)) }
+    ensures list { results.new ≡ file_list file.now results.old }
+    ensures full { full.new ≡ full_told (file_answer file.now (length results.old)) full.old }
+    ensures paid { paid.new ≡ paid_told (file_answer file.now (length results.old)) paid.old }
+    ensures place { place.new ≡ place_told (file_answer file.now (length results.old)) place.old }
 {
-    let answer = settle_file(file, amounts, marks);
+    let answer = settle_file(file, results);
     *full = full_told(answer, *full);
     *paid = paid_told(answer, *paid);
     *place = place_told(answer, *place);
@@ -88,7 +85,7 @@ pub extern "C" fn ripplehatch_refused_part(file: &[u8], long: &mut usize) -> usi
     16 * reading.place
 }
 
-// How many rounds a shift has: it is lent 35 amounts, 35 marks and two numbers for each.
+// How many rounds a shift has: it is lent 35 amounts and two numbers for each.
 #[unsafe(no_mangle)]
 pub extern "C" fn ripplehatch_count_rounds(file: &[u8]) -> usize
     ensures { result ≡ round_count file.now }
@@ -96,25 +93,23 @@ pub extern "C" fn ripplehatch_count_rounds(file: &[u8]) -> usize
     count_rounds(file)
 }
 
-// Settles a shift into lists of 35 amounts, 35 marks and two numbers a round, its refusal's number and place. Answers 0 and tells how many rounds there are; or answers 2 or 1
+// Settles a shift into a list of 35 numbers a round and one of two numbers a round, its refusal's number and place. Answers 0 and tells how many rounds there are; or answers 2 or 1
 // and tells its place.
 #[unsafe(no_mangle)]
 pub extern "C" fn ripplehatch_settle_shift(
     file: &[u8],
     amounts: &mut [u64],
-    marks: &mut [u8],
     answers: &mut [u64],
     rounds: &mut usize,
     place: &mut usize,
 ) -> u8
-    ensures number { result ≡ shift_refusal file.now (lists_fit file.now amounts.old marks.old answers.old) }
-    ensures amounts { amounts.new ≡ shift_list round_amounts file.now (lists_fit file.now amounts.old marks.old answers.old) amounts.old }
-    ensures marks { marks.new ≡ shift_list round_marks file.now (lists_fit file.now amounts.old marks.old answers.old) marks.old }
-    ensures answers { answers.new ≡ shift_list round_answer file.now (lists_fit file.now amounts.old marks.old answers.old) answers.old }
-    ensures rounds { rounds.new ≡ rounds_told (shift_answer file.now (lists_fit file.now amounts.old marks.old answers.old)) rounds.old }
-    ensures place { place.new ≡ shiftPlaceTold (shift_answer file.now (lists_fit file.now amounts.old marks.old answers.old)) place.old }
+    ensures number { result ≡ shift_refusal file.now (lists_fit file.now amounts.old answers.old) }
+    ensures amounts { amounts.new ≡ shift_list round_amounts file.now (lists_fit file.now amounts.old answers.old) amounts.old }
+    ensures answers { answers.new ≡ shift_list round_answer file.now (lists_fit file.now amounts.old answers.old) answers.old }
+    ensures rounds { rounds.new ≡ rounds_told (shift_answer file.now (lists_fit file.now amounts.old answers.old)) rounds.old }
+    ensures place { place.new ≡ shiftPlaceTold (shift_answer file.now (lists_fit file.now amounts.old answers.old)) place.old }
 {
-    settle_told(file, amounts, marks, answers, rounds, place)
+    settle_told(file, amounts, answers, rounds, place)
 }
 
 // Answers one record to a round that is held as the file of it. Answers 0 where the record is accepted, and tells whether the round is then finished, 1 or
@@ -140,7 +135,7 @@ fn hand_number(answer: FiveAnswer) -> u8
     ensures { result ≡ five_number answer }
 {
     match answer {
-        FiveAnswer::Name { name, lit } => 0,
+        FiveAnswer::Name(name) => 0,
         FiveAnswer::Refused(number) => number,
     }
 }
@@ -149,31 +144,19 @@ fn name_told(answer: FiveAnswer, was: usize) -> usize
     ensures { result ≡ name_told answer was }
 {
     match answer {
-        FiveAnswer::Name { name, lit } => five_place(name),
+        FiveAnswer::Name(name) => five_place(name),
         FiveAnswer::Refused(number) => was,
     }
 }
 
-fn lit_told(answer: FiveAnswer, before: u8) -> u8
-    ensures { result ≡ lit_told answer before }
-{
-    match answer {
-        FiveAnswer::Name { name, lit } => lit,
-        FiveAnswer::Refused(number) => before,
-    }
-}
-
-// Names five cards. Answers 0 and tells the name's place in the list of names, 0 for a royal flush to 10 for other, and the cards that make it, 1, 2, 4, .. for the first, second,
-// third card; or answers 18 or 11.
+// Names five cards. Answers 0 and tells the name's place in the list of names, 0 for a royal flush to 10 for other; or answers 18 or 11.
 #[unsafe(no_mangle)]
-pub extern "C" fn ripplehatch_name_five(cards: &[u8], name: &mut usize, lit: &mut u8) -> u8
+pub extern "C" fn ripplehatch_name_five(cards: &[u8], name: &mut usize) -> u8
     ensures number { result ≡ five_number (answer_five cards.now) }
     ensures name { name.new ≡ name_told (answer_five cards.now) name.old }
-    ensures lit { lit.new ≡ lit_told (answer_five cards.now) lit.old }
 {
     let answer = name_five(cards);
     *name = name_told(answer, *name);
-    *lit = lit_told(answer, *lit);
     hand_number(answer)
 }
 
@@ -181,7 +164,7 @@ fn lo_number(answer: LoAnswer) -> u8
     ensures { result ≡ lo_number answer }
 {
     match answer {
-        LoAnswer::Name { name, lit } => 0,
+        LoAnswer::Name(name) => 0,
         LoAnswer::Refused(number) => number,
     }
 }
@@ -199,42 +182,30 @@ fn lo_told(answer: LoAnswer, was: usize) -> usize
     ensures { result ≡ lo_told answer was }
 {
     match answer {
-        LoAnswer::Name { name, lit } => lo_high(name),
+        LoAnswer::Name(name) => lo_high(name),
         LoAnswer::Refused(number) => was,
     }
 }
 
-fn lo_lit(answer: LoAnswer, before: u8) -> u8
-    ensures { result ≡ lo_lit answer before }
-{
-    match answer {
-        LoAnswer::Name { name, lit } => lit,
-        LoAnswer::Refused(number) => before,
-    }
-}
-
-// Names five cards for Lo Ball. Answers 0 and tells the high rank, 0 for a two to 12 for an ace, or 13 for nothing, and the card that makes it; or answers 18 or 11.
+// Names five cards for Lo Ball. Answers 0 and tells the high rank, 0 for a two to 12 for an ace, or 13 for nothing; or answers 18 or 11.
 #[unsafe(no_mangle)]
-pub extern "C" fn ripplehatch_name_lo(cards: &[u8], high: &mut usize, lit: &mut u8) -> u8
+pub extern "C" fn ripplehatch_name_lo(cards: &[u8], high: &mut usize) -> u8
     ensures number { result ≡ lo_number (answer_lo cards.now) }
     ensures high { high.new ≡ lo_told (answer_lo cards.now) high.old }
-    ensures lit { lit.new ≡ lo_lit (answer_lo cards.now) lit.old }
 {
     let answer = name_lo(cards);
     *high = lo_told(answer, *high);
-    *lit = lo_lit(answer, *lit);
     lo_number(answer)
 }
 
 // Names six cards for All-Six. Answers 0 and tells the name's place: 0 for nine to ace of diamonds, 1 for nine to ace of another suit, 2 for a royal flush to 12 for
-// other, and the cards that make it; or answers 18 or 11.
+// other; or answers 18 or 11.
 #[unsafe(no_mangle)]
-pub extern "C" fn ripplehatch_name_six(cards: &[u8], name: &mut usize, lit: &mut u8) -> u8
+pub extern "C" fn ripplehatch_name_six(cards: &[u8], name: &mut usize) -> u8
     ensures number { result ≡ hand_refusal 6 cards.now }
     ensures name { name.new ≡ six_told (answer_six cards.now) name.old }
-    ensures lit { lit.new ≡ six_lit (answer_six cards.now) lit.old }
 {
-    name_six_told(cards, name, lit)
+    name_six_told(cards, name)
 }
 
 fn share_number(answer: Shared) -> u8

@@ -1,7 +1,7 @@
 // Answers a stream of round files, one line a file, to be compared with what another settler answers.
 //
 // Each file of the stream comes after its length, two bytes, low byte first. Printed are, of an accepted file, `paid`, the 35 amounts in cents, `pool`
-// and the pool in dollars, full and as paid, `lit` and the 35 marks; of a refused one `refused N at R`, the refusal's number and its place. Then comes `part` with the
+// and the pool in dollars, full and as paid; of a refused one `refused N at R`, the refusal's number and its place. Then comes `part` with the
 // byte at which the refused part begins and its bytes as hexadecimal digits; of an accepted file the part is the empty one at the end. Then the file is held: `take`
 // with what all of it but the last record, or the odd bytes at its end, answers to these, `next`, `finished` or `refused N`; `written` with `refused N`, or with
 // how many first records stand as they came when the whole file is written, and the records from there on, each as hexadecimal digits without the zero bytes at
@@ -23,7 +23,7 @@ use records::{byte_at, word_at};
 use results::RESULTS;
 use ripplehatch::{ripplehatch_refused_part, ripplehatch_take, ripplehatch_write};
 use settlement::{FileSettlement, settle_file};
-use text::{put_bytes, put_list, put_named, put_small};
+use text::{put_bytes, put_list, put_named};
 
 const NAME: [u8; 6] = *b"rounds";
 
@@ -49,16 +49,9 @@ enum Next {
     Fault,
 }
 
-fn put_paid(
-    line: &mut [u8],
-    amounts: [u64; RESULTS],
-    marks: [u8; RESULTS],
-    full: u64,
-    paid: u64,
-) -> usize {
+fn put_paid(line: &mut [u8], amounts: [u64; RESULTS], full: u64, paid: u64) -> usize {
     let listed = put_list(line, 0, b"paid", &amounts);
-    let pooled = put_list(line, listed, b" pool", &[full, paid]);
-    put_small(line, pooled, b" lit", &marks)
+    put_list(line, listed, b" pool", &[full, paid])
 }
 
 fn put_refused(line: &mut [u8], number: u8, place: usize) -> usize {
@@ -72,9 +65,8 @@ fn put_refusal(line: &mut [u8], at: usize, number: u8) -> usize {
 
 fn put_settled(line: &mut [u8], file: &[u8]) -> usize {
     let mut amounts = [0u64; RESULTS];
-    let mut marks = [0u8; RESULTS];
-    match settle_file(file, &mut amounts, &mut marks) {
-        FileSettlement::Paid { full, paid } => put_paid(line, amounts, marks, full, paid),
+    match settle_file(file, &mut amounts) {
+        FileSettlement::Paid { full, paid } => put_paid(line, amounts, full, paid),
         FileSettlement::Refused { number, place } => put_refused(line, number, place),
     }
 }
@@ -152,9 +144,9 @@ fn put_rewritten(line: &mut [u8], at: usize, file: &[u8]) -> usize {
     put_written(line, at, file, lent)
 }
 
-// A line is at most 35 amounts of 20 digits, the pool, 35 marks of 3, a part of 16 bytes and 33 records, so it fits its room.
+// A line is at most 35 amounts of 20 digits, the pool, a part of 16 bytes and 33 records, so it fits its room.
 fn write_answer(file: &[u8]) -> Turn {
-    let mut line = [0u8; 2304];
+    let mut line = [0u8; 2048];
     let settled = put_settled(&mut line, file);
     let part = put_part(&mut line, settled, begins(file), refused_part(file));
     let taken = put_taken(&mut line, part, file);

@@ -15,32 +15,86 @@
 //
 // The first 34 records are held and the bytes beyond are counted, which is enough for the answer of the whole file
 // (`prefix_is_file`, crates/demands/proofs/Demands.antt). What is read and printed is tested, not proved.
+ghost use Rattle.std.specs.Prelude.{◌≤◌};
 ghost use Rattle.io.specs.Counts.{IsPrefixLen};
 
-use pipes::{Outcome, called, end, read_first};
-use results::RESULTS;
-use rows::{HELD_BYTES, print_refused, printed, put_seats};
+use pipes::{Outcome, called, end, print, read_first};
+use results::{RESULTS, SEAT_WAGERS};
 use settlement::{FileSettlement, settle_prefix};
-use text::put_line;
+use text::{put_line, put_named};
 
 const NAME: [u8; 6] = *b"settle";
 
+// The records that are held, and their bytes.
+const HELD: usize = 34;
+
+const HELD_BYTES: usize = 16 * HELD;
+
+// The seat of a seat record, 0 for another record.
+fn seat_of(kind: u8, seat: u8) -> u8
+    ensures { result ≤ 7 }
+{
+    if kind != 2 {
+        return 0;
+    }
+    if 7 < seat {
+        return 0;
+    }
+    seat
+}
+
+// A seat's number and its amounts; nothing for no seat.
+fn put_seat(room: &mut [u8], at: usize, seat: u8, results: [u64; RESULTS]) -> usize
+    requires { seat ≤ 7 }
+{
+    if seat == 0 {
+        return at;
+    }
+    let end = SEAT_WAGERS * (seat as usize);
+    let start = end - SEAT_WAGERS;
+    put_line(room, at, &[48 + seat], &results[start..end])
+}
+
+// The playing seats are those that have a seat record, and these come by rising numbers.
+fn put_seats(room: &mut [u8], file: [u8; HELD_BYTES], results: [u64; RESULTS]) -> usize {
+    let mut next = 0;
+    for i in 0..HELD {
+        let seat = seat_of(file[16 * i], file[16 * i + 1]);
+        next = put_seat(room, next, seat, results);
+    }
+    next
+}
+
+// Writes the answer, which ends at `last`: the outcome, or a fault where it can't be written.
+fn printed(room: &[u8], last: usize, outcome: Outcome) -> Outcome {
+    if print(&NAME, room, last) {
+        return outcome;
+    }
+    Outcome::Fault
+}
+
 // At most 34 lines of 107 bytes and one of 47, so they fit their room.
-fn print_paid(file: [u8; HELD_BYTES], amounts: [u64; RESULTS], full: u64, paid: u64) -> Outcome {
+fn print_paid(file: [u8; HELD_BYTES], results: [u64; RESULTS], full: u64, paid: u64) -> Outcome {
     let mut room = io::buffer();
-    let seats = put_seats(&mut room, file, amounts);
+    let seats = put_seats(&mut room, file, results);
     let last = put_line(&mut room, seats, b"pool", &[full, paid]);
-    printed(&NAME, &room, last, Outcome::Done)
+    printed(&room, last, Outcome::Done)
+}
+
+fn print_refused(number: u8, place: usize) -> Outcome {
+    let mut room = [0u8; 64];
+    let numbered = put_named(&mut room, 0, b"refused ", number as u64);
+    let last = put_line(&mut room, numbered, b" at", &[place as u64]);
+    printed(&room, last, Outcome::Refused)
 }
 
 fn settled(file: [u8; HELD_BYTES], held: usize, more: usize) -> Outcome
     requires { IsPrefixLen held file }
 {
-    let mut amounts = [0u64; RESULTS];
-    let mut marks = [0u8; RESULTS];
-    match settle_prefix(&file[..held], more, &mut amounts, &mut marks) {
-        FileSettlement::Paid { full, paid } => print_paid(file, amounts, full, paid),
-        FileSettlement::Refused { number, place } => print_refused(&NAME, number, place),
+    let mut results = [0u64; RESULTS];
+    match settle_prefix(&file[..held], more, &mut results) {
+        FileSettlement::Paid { full, paid } => print_paid(file, results, full, paid),
+        FileSettlement::Refused { number, place } => print_refused(number, place),
     }
 }
 

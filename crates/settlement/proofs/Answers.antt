@@ -1,8 +1,8 @@
--- The answers of the entries and what the lent lists then hold, case by case; and what is promised of an answer.
+-- The answers of the entries and what the lent list then holds, case by case; and what is promised of an answer.
 -- Assumes nothing.
 use Prim.Native.Nat.{ℕ, ◌≤◌}
 use mathlib.Core.Path.{◌≡◌, refl, ap, ◌∙◌}
-use mathlib.Core.Bool.{Bool, true, false, not, ◌&&◌}
+use mathlib.Core.Bool.{Bool, true, false, not}
 use mathlib.Core.List.{List}
 use native.Mathlib.Omega.{arith}
 use lib.Dec.{eqb}
@@ -10,103 +10,95 @@ use lib.ListN.{length}
 use borrow.Author.Tests.{eq-eqb, ne_eqb, eqb-true}
 use Rattle.counting.specs.Choose.{if◌then◌else◌, unless_refused}
 use Rattle.counting.proofs.Answers.{by_number, by_values}
-use Rattle.counting.proofs.Tests.{and_true}
 use Rattle.round.specs.declared.Round.{Round}
 use Rattle.round.specs.Order.{is_finished}
 use Rattle.led.specs.Held.{is_held}
 use Rattle.held.specs.Take.{Decides}
 use Rattle.held.proofs.Answers.{decided}
 use Rattle.reading.specs.declared.Reading.{Reading}
-use Rattle.results.specs.Results.{pool, results_long, results, result_marks}
+use Rattle.results.specs.Results.{pool, results_long, results}
 use Rattle.settlement.specs.declared.Settlement.{Settlement}
 use Rattle.settlement.specs.declared.Settlement.TheVariants.{Paid, Refused}
 use Rattle.settlement.specs.declared.FileSettlement.{FileSettlement}
 use Rattle.settlement.specs.declared.FileSettlement.TheVariants.{Paid as PaidFile, Refused as RefusedFile}
-use Rattle.settlement.specs.Settle.{both_fit, settle_refusal, settle_answer, settle_list, settle_number, settle_pool, full_and_paid, read_refusal, read_place, read_answer, read_list, file_number, file_place, file_pool, counted_place, read_pool, at_place}
-
--- both lists are right
-pub both_right : (amounts marks : List ℕ) → both_fit amounts marks ≡ true → (length amounts ≡ results_long) × (length marks ≡ results_long)
-both_right amounts marks t =
-    let s = and_true (eqb (length amounts) results_long) (eqb (length marks) results_long) t in
-    (eqb-true _ _ s.0, eqb-true _ _ s.1)
+use Rattle.settlement.specs.Settle.{settle_refusal, settle_answer, settle_list, settle_number, settle_pool, full_and_paid, read_refusal, read_place, read_answer, read_list, file_number, file_place, file_pool, counted_place, read_pool, at_place}
 
 -- ---- a round
 
-module _ (r : Round) (fit : Bool) (amounts marks : List ℕ) where
-  -- the answer, and both lists
-  abbrev pub Settles : Settlement → List ℕ → List ℕ → Type 0
-  Settles answer xs ys = (answer ≡ settle_answer r fit) × ((xs ≡ settle_list results r fit amounts) × (ys ≡ settle_list result_marks r fit marks))
+module _ (r : Round) (lent : List ℕ) where
+  -- the answer, and the list
+  abbrev pub Settles : Settlement → List ℕ → Type 0
+  Settles answer new = (answer ≡ settle_answer r (length lent)) × (new ≡ settle_list r lent)
 
-  pub not_held : is_held r ≡ false → Settles (Refused 17) amounts marks
+  pub not_held : is_held r ≡ false → Settles (Refused 17) lent
   unfolding settle_refusal settle_answer settle_list
-  not_held h = (simp h, (simp h, simp h))
+  not_held h = (simp h, simp h)
 
   module _ (h : is_held r ≡ true) where
-    pub wrong_lists : fit ≡ false → Settles (Refused 1) amounts marks
+    pub wrong_room : (length lent ≡ results_long → ⊥) → Settles (Refused 1) lent
     unfolding settle_refusal settle_answer settle_list
-    wrong_lists n = (simp (h, n), (simp (h, n), simp (h, n)))
+    wrong_room n = (simp (h, ne_eqb (length lent) results_long n), simp (h, ne_eqb (length lent) results_long n))
 
-    pub unfinished : fit ≡ true → is_finished r ≡ false → Settles (Refused 16) amounts marks
+    pub unfinished : length lent ≡ results_long → is_finished r ≡ false → Settles (Refused 16) lent
     unfolding settle_refusal settle_answer settle_list
-    unfinished e f = (simp (h, e, f), (simp (h, e, f), simp (h, e, f)))
+    unfinished e f = (simp (h, e, f), simp (h, e, f))
 
-    pub all_paid : fit ≡ true → is_finished r ≡ true → (xs ys : List ℕ) → xs ≡ results r → ys ≡ result_marks r → Settles (Paid (pool r).full (pool r).paid) xs ys
+    pub all_paid : length lent ≡ results_long → is_finished r ≡ true → (new : List ℕ) → new ≡ results r → Settles (Paid (pool r).full (pool r).paid) new
     unfolding settle_refusal settle_answer settle_list
-    all_paid e f xs ys p q = (simp (h, e, f), (simp (h, e, f) p, simp (h, e, f) q))
+    all_paid e f new q = (simp (h, e, f), simp (h, e, f) q)
 
-module _ (r : Round) (fit : Bool) where
+module _ (r : Round) (room : ℕ) where
   abbrev answer_by : Bool → Settlement
-  answer_by none = if not none then Refused (settle_refusal r fit) else Paid (pool r).full (pool r).paid
+  answer_by none = if not none then Refused (settle_refusal r room) else Paid (pool r).full (pool r).paid
 
-  pub settle_number_lem : settle_number (settle_answer r fit) ≡ settle_refusal r fit
+  pub settle_number_lem : settle_number (settle_answer r room) ≡ settle_refusal r room
   unfolding settle_answer
-  settle_number_lem = by_number (settle_refusal r fit) answer_by settle_number refl refl
+  settle_number_lem = by_number (settle_refusal r room) answer_by settle_number refl refl
 
-  pub settle_pool_lem : settle_pool (settle_answer r fit) ≡ unless_refused (settle_refusal r fit) (full_and_paid r)
+  pub settle_pool_lem : settle_pool (settle_answer r room) ≡ unless_refused (settle_refusal r room) (full_and_paid r)
   unfolding settle_answer
-  settle_pool_lem = by_values (settle_refusal r fit) answer_by settle_pool (full_and_paid r) refl refl
+  settle_pool_lem = by_values (settle_refusal r room) answer_by settle_pool (full_and_paid r) refl refl
 
 -- what settle promises
-pub round_promised : (r : Round) (fit : Bool) (amounts marks : List ℕ) (answer : Settlement) (xs ys : List ℕ) (t : Bool) → Settles r fit amounts marks answer xs ys → Decides r t
-    → (answer ≡ settle_answer r fit)
-    × ((settle_number answer ≡ settle_refusal r fit)
-    × ((settle_pool answer ≡ unless_refused (settle_refusal r fit) (full_and_paid r))
-    × ((xs ≡ settle_list results r fit amounts) × ((ys ≡ settle_list result_marks r fit marks) × Decides r (is_held r)))))
-round_promised r fit amounts marks answer xs ys t s d =
-    (s.0, (ap settle_number s.0 ∙ settle_number_lem r fit, (ap settle_pool s.0 ∙ settle_pool_lem r fit, (s.1.0, (s.1.1, decided r t d)))))
+pub round_promised : (r : Round) (lent : List ℕ) (answer : Settlement) (new : List ℕ) (t : Bool) → Settles r lent answer new → Decides r t
+    → (answer ≡ settle_answer r (length lent))
+    × ((settle_number answer ≡ settle_refusal r (length lent))
+    × ((settle_pool answer ≡ unless_refused (settle_refusal r (length lent)) (full_and_paid r)) × ((new ≡ settle_list r lent) × Decides r (is_held r))))
+round_promised r lent answer new t s d =
+    (s.0, (ap settle_number s.0 ∙ settle_number_lem r (length lent), (ap settle_pool s.0 ∙ settle_pool_lem r (length lent), (s.1, decided r t d))))
 
 -- ---- a file
 
-module _ (w : Reading) (fit : Bool) where
+module _ (w : Reading) (room : ℕ) where
   abbrev file_by : Bool → FileSettlement
-  file_by none = if not none then RefusedFile (read_refusal w fit) (read_place w fit) else PaidFile (pool w.round).full (pool w.round).paid
+  file_by none = if not none then RefusedFile (read_refusal w room) (read_place w room) else PaidFile (pool w.round).full (pool w.round).paid
 
-  pub file_number_lem : file_number (read_answer w fit) ≡ read_refusal w fit
+  pub file_number_lem : file_number (read_answer w room) ≡ read_refusal w room
   unfolding read_answer
-  file_number_lem = by_number (read_refusal w fit) file_by file_number refl refl
+  file_number_lem = by_number (read_refusal w room) file_by file_number refl refl
 
-  pub file_pool_lem : file_pool (read_answer w fit) ≡ read_pool w fit
+  pub file_pool_lem : file_pool (read_answer w room) ≡ read_pool w room
   unfolding read_answer
-  file_pool_lem = by_values (read_refusal w fit) file_by file_pool (full_and_paid w.round) refl refl
+  file_pool_lem = by_values (read_refusal w room) file_by file_pool (full_and_paid w.round) refl refl
 
   -- a reading whose number is at most 15, and which ends with none at the count of whole records
   module _ (count : ℕ) (most : w.number ≤ 15) (all : w.number ≡ 0 → w.place ≡ count) where
-    at_16 : read_refusal w fit ≡ 16 → read_place w fit ≡ count
+    at_16 : read_refusal w room ≡ 16 → read_place w room ≡ count
     unfolding read_refusal read_place
-    at_16 = go fit (eqb w.number 0) refl
+    at_16 = go (eqb room results_long) (eqb w.number 0) refl
       where
-        go : (a b : Bool) → eqb w.number 0 ≡ b → (if not a then 1 else if not b then w.number else settle_refusal w.round fit) ≡ 16 → (if not a then 0 else w.place) ≡ count
+        go : (a b : Bool) → eqb w.number 0 ≡ b → (if not a then 1 else if not b then w.number else settle_refusal w.round room) ≡ 16 → (if not a then 0 else w.place) ≡ count
         go false b q e = absurd (omega arith)
         go true false q e = absurd (omega arith)
         go true true q e = all (eqb-true w.number 0 q)
 
-    pub file_place_lem : file_place (read_answer w fit) ≡ counted_place w count fit
+    pub file_place_lem : file_place (read_answer w room) ≡ counted_place w count room
     unfolding read_answer counted_place
-    file_place_lem = go (eqb (read_refusal w fit) 0) (eqb (read_refusal w fit) 16) refl
+    file_place_lem = go (eqb (read_refusal w room) 0) (eqb (read_refusal w room) 16) refl
       where
-        go : (none b : Bool) → eqb (read_refusal w fit) 16 ≡ b → file_place (file_by none) ≡ (if none then 0 else if b then count else read_place w fit)
+        go : (none b : Bool) → eqb (read_refusal w room) 16 ≡ b → file_place (file_by none) ≡ (if none then 0 else if b then count else read_place w room)
         go true b q = refl
-        go false true q = at_16 (eqb-true (read_refusal w fit) 16 q)
+        go false true q = at_16 (eqb-true (read_refusal w room) 16 q)
         go false false q = refl
 
 at_place_lem : (none : Bool) (number place full paid : ℕ)
@@ -114,32 +106,33 @@ at_place_lem : (none : Bool) (number place full paid : ℕ)
 at_place_lem true number place full paid = refl
 at_place_lem false number place full paid = refl
 
-module _ (w : Reading) (fit : Bool) (amounts marks : List ℕ) where
-  -- the answer, and both lists
-  abbrev pub SettlesFile : FileSettlement → List ℕ → List ℕ → Type 0
-  SettlesFile answer xs ys = (answer ≡ read_answer w fit) × ((xs ≡ read_list results w fit amounts) × (ys ≡ read_list result_marks w fit marks))
+module _ (w : Reading) (lent : List ℕ) where
+  -- the answer, and the list
+  abbrev pub SettlesFile : FileSettlement → List ℕ → Type 0
+  SettlesFile answer new = (answer ≡ read_answer w (length lent)) × (new ≡ read_list w lent)
 
-  pub read_wrong : fit ≡ false → SettlesFile (RefusedFile 1 0) amounts marks
+  pub read_room : (length lent ≡ results_long → ⊥) → SettlesFile (RefusedFile 1 0) lent
   unfolding read_refusal read_place read_answer read_list
-  read_wrong n = (simp n, (simp n, simp n))
+  read_room n = let wrong = ne_eqb (length lent) results_long n in (simp wrong, simp wrong)
 
-  module _ (e : fit ≡ true) where
-    pub read_refused : (w.number ≡ 0 → ⊥) → SettlesFile (RefusedFile w.number w.place) amounts marks
+  module _ (e : length lent ≡ results_long) where
+    pub read_refused : (w.number ≡ 0 → ⊥) → SettlesFile (RefusedFile w.number w.place) lent
     unfolding read_refusal read_place read_answer read_list
-    read_refused n = let some = ne_eqb w.number 0 n in (simp (e, some), (simp (e, some), simp (e, some)))
+    read_refused n = let some = ne_eqb w.number 0 n in (simp (e, some), simp (e, some))
 
-    -- else it is the answer for the held round, and its lists
-    pub read_settled : w.number ≡ 0 → (answer : Settlement) (xs ys : List ℕ) → Settles w.round fit amounts marks answer xs ys → SettlesFile (at_place w.place answer) xs ys
+    -- else it is the answer for the held round, and its list
+    pub read_settled : w.number ≡ 0 → (answer : Settlement) (new : List ℕ) → Settles w.round lent answer new → SettlesFile (at_place w.place answer) new
     unfolding settle_answer settle_list read_refusal read_place read_answer read_list
-    read_settled z answer xs ys s =
-        (simp (s.0, z, e) (at_place_lem (eqb (settle_refusal w.round true) 0) _ _ _ _), (simp (z, e) (rw e at s.1.0), simp (z, e) (rw e at s.1.1)))
+    read_settled z answer new s =
+        let right = eq-eqb (length lent) results_long e in
+        (simp (s.0, z, right) (at_place_lem (eqb (settle_refusal w.round (length lent)) 0) _ _ _ _), simp (z, right) s.1)
 
 -- what settle_file and settle_prefix promise
-pub file_promised : (w : Reading) (count : ℕ) (fit : Bool) (amounts marks : List ℕ) (answer : FileSettlement) (xs ys : List ℕ) → w.number ≤ 15
-    → (w.number ≡ 0 → w.place ≡ count) → SettlesFile w fit amounts marks answer xs ys
-    → (answer ≡ read_answer w fit)
-    × ((file_number answer ≡ read_refusal w fit)
-    × ((file_place answer ≡ counted_place w count fit)
-    × ((file_pool answer ≡ read_pool w fit) × ((xs ≡ read_list results w fit amounts) × (ys ≡ read_list result_marks w fit marks)))))
-file_promised w count fit amounts marks answer xs ys most all s =
-    (s.0, (ap file_number s.0 ∙ file_number_lem w fit, (ap file_place s.0 ∙ file_place_lem w fit count most all, (ap file_pool s.0 ∙ file_pool_lem w fit, s.1))))
+pub file_promised : (w : Reading) (count : ℕ) (lent : List ℕ) (answer : FileSettlement) (new : List ℕ) → w.number ≤ 15 → (w.number ≡ 0 → w.place ≡ count)
+    → SettlesFile w lent answer new
+    → (answer ≡ read_answer w (length lent))
+    × ((file_number answer ≡ read_refusal w (length lent))
+    × ((file_place answer ≡ counted_place w count (length lent)) × ((file_pool answer ≡ read_pool w (length lent)) × (new ≡ read_list w lent))))
+file_promised w count lent answer new most all s =
+    let room = length lent in
+    (s.0, (ap file_number s.0 ∙ file_number_lem w room, (ap file_place s.0 ∙ file_place_lem w room count most all, (ap file_pool s.0 ∙ file_pool_lem w room, s.1))))

@@ -1,13 +1,13 @@
--- What the entries answer, and what the lent lists then hold.
+-- What the entries answer, and what the lent list then holds.
 -- Assumes nothing.
-use Rattle.std.specs.Prelude.{ℕ, Bool, not, ◌&&◌, List, [], ◌∷◌, eqb, length}
+use Rattle.std.specs.Prelude.{ℕ, not, List, [], ◌∷◌, eqb, length}
 use Rattle.counting.specs.Choose.{if◌then◌else◌, unless_refused}
 use Rattle.round.specs.declared.Round.{Round}
 use Rattle.round.specs.Order.{is_finished}
 use Rattle.led.specs.Held.{is_held}
 use Rattle.reading.specs.declared.Reading.{Reading}
 use Rattle.reading.specs.File.{read_file, read_prefix}
-use Rattle.results.specs.Results.{pool, results_long}
+use Rattle.results.specs.Results.{pool, results_long, results}
 use Rattle.settlement.specs.declared.Settlement.{Settlement}
 use Rattle.settlement.specs.declared.Settlement.TheVariants.{Paid, Refused}
 use Rattle.settlement.specs.declared.FileSettlement.{FileSettlement}
@@ -15,28 +15,24 @@ use Rattle.settlement.specs.declared.FileSettlement.TheVariants.{Paid as PaidFil
 
 -- ---- a held round
 
--- both lists, that of the results and that of the marks, are 35 long
-abbrev pub both_fit : List ℕ → List ℕ → Bool
-both_fit amounts marks = eqb (length amounts) results_long && eqb (length marks) results_long
-
 -- The number of the refusal, 0 where there is none. 17: the held round is neither the fresh one nor led to by accepted records. 1: the results
--- list isn't 35 long, or that of the marks isn't. 16: the round isn't finished. (fit: whether both are.)
-unfoldable pub settle_refusal : Round → Bool → ℕ
-settle_refusal r fit =
+-- list isn't 35 long. 16: the round isn't finished. (room: how long the results list is.)
+unfoldable pub settle_refusal : Round → ℕ → ℕ
+settle_refusal r room =
     if not (is_held r) then 17
-    else if not fit then 1
+    else if not (eqb room results_long) then 1
     else if not (is_finished r) then 16
     else 0
 
 -- refused with its number, or the pool in dollars, full and as paid
-unfoldable pub settle_answer : Round → Bool → Settlement
-settle_answer r fit =
-    if not (eqb (settle_refusal r fit) 0) then Refused (settle_refusal r fit)
+unfoldable pub settle_answer : Round → ℕ → Settlement
+settle_answer r room =
+    if not (eqb (settle_refusal r room) 0) then Refused (settle_refusal r room)
     else Paid (pool r).full (pool r).paid
 
--- What a lent list then holds: a refusal changes none; else what the round gives, its results or its marks.
-unfoldable pub settle_list : (Round → List ℕ) → Round → Bool → List ℕ → List ℕ
-settle_list give r fit lent = if not (eqb (settle_refusal r fit) 0) then lent else give r
+-- A refusal changes no lent list.
+unfoldable pub settle_list : Round → List ℕ → List ℕ
+settle_list r lent = if not (eqb (settle_refusal r (length lent)) 0) then lent else results r
 
 -- this paper's number for each answer: the refusal's, and 0 where the round is settled
 abbrev pub settle_number : Settlement → ℕ
@@ -55,39 +51,39 @@ full_and_paid r = (pool r).full ∷ (pool r).paid ∷ []
 -- ---- a file
 
 -- The number of the refusal, 0 where there is none. A file is checked for 1, then 2, then record by record; else the held round is settled.
-unfoldable pub read_refusal : Reading → Bool → ℕ
-read_refusal w fit =
-    if not fit then 1
+unfoldable pub read_refusal : Reading → ℕ → ℕ
+read_refusal w room =
+    if not (eqb room results_long) then 1
     else if not (eqb w.number 0) then w.number
-    else settle_refusal w.round fit
+    else settle_refusal w.round room
 
 -- Its place: for 1, place 0; else where reading ended, which is the place of the first faulty record, from 0, and for 2 and 16 the count of whole
 -- records.
-unfoldable pub read_place : Reading → Bool → ℕ
-read_place w fit = if not fit then 0 else w.place
+unfoldable pub read_place : Reading → ℕ → ℕ
+read_place w room = if not (eqb room results_long) then 0 else w.place
 
 -- refused with its number and place, or the pool in dollars, full and as paid
-unfoldable pub read_answer : Reading → Bool → FileSettlement
-read_answer w fit =
-    if not (eqb (read_refusal w fit) 0) then RefusedFile (read_refusal w fit) (read_place w fit)
+unfoldable pub read_answer : Reading → ℕ → FileSettlement
+read_answer w room =
+    if not (eqb (read_refusal w room) 0) then RefusedFile (read_refusal w room) (read_place w room)
     else PaidFile (pool w.round).full (pool w.round).paid
 
--- What a lent list then holds: a refusal changes none; else what the round gives.
-unfoldable pub read_list : (Round → List ℕ) → Reading → Bool → List ℕ → List ℕ
-read_list give w fit lent = if not (eqb (read_refusal w fit) 0) then lent else give w.round
+-- A refusal changes no lent list.
+unfoldable pub read_list : Reading → List ℕ → List ℕ
+read_list w lent = if not (eqb (read_refusal w (length lent)) 0) then lent else results w.round
 
-abbrev pub file_answer : List ℕ → Bool → FileSettlement
-file_answer l fit = read_answer (read_file l) fit
+abbrev pub file_answer : List ℕ → ℕ → FileSettlement
+file_answer l room = read_answer (read_file l) room
 
-abbrev pub file_list : (Round → List ℕ) → List ℕ → Bool → List ℕ → List ℕ
-file_list give l fit lent = read_list give (read_file l) fit lent
+abbrev pub file_list : List ℕ → List ℕ → List ℕ
+file_list l lent = read_list (read_file l) lent
 
 -- the same of a file of which the first bytes are held and the rest is counted
-abbrev pub prefix_answer : List ℕ → ℕ → Bool → FileSettlement
-prefix_answer first after fit = read_answer (read_prefix first after) fit
+abbrev pub prefix_answer : List ℕ → ℕ → ℕ → FileSettlement
+prefix_answer first after room = read_answer (read_prefix first after) room
 
-abbrev pub prefix_list : (Round → List ℕ) → List ℕ → ℕ → Bool → List ℕ → List ℕ
-prefix_list give first after fit lent = read_list give (read_prefix first after) fit lent
+abbrev pub prefix_list : List ℕ → ℕ → List ℕ → List ℕ
+prefix_list first after lent = read_list (read_prefix first after) lent
 
 -- this paper's number for each answer: the refusal's, and 0 where the round is settled
 abbrev pub file_number : FileSettlement → ℕ
@@ -105,15 +101,15 @@ file_pool (PaidFile full paid) = full ∷ paid ∷ []
 file_pool (RefusedFile number place) = []
 
 -- the place as it goes by the number: 0 where there is no refusal, and for 16 the count of whole records
-unfoldable pub counted_place : Reading → ℕ → Bool → ℕ
-counted_place w count fit =
-    if eqb (read_refusal w fit) 0 then 0
-    else if eqb (read_refusal w fit) 16 then count
-    else read_place w fit
+unfoldable pub counted_place : Reading → ℕ → ℕ → ℕ
+counted_place w count room =
+    if eqb (read_refusal w room) 0 then 0
+    else if eqb (read_refusal w room) 16 then count
+    else read_place w room
 
 -- the pool in dollars, full and as paid, where there is no refusal
-abbrev pub read_pool : Reading → Bool → List ℕ
-read_pool w fit = unless_refused (read_refusal w fit) (full_and_paid w.round)
+abbrev pub read_pool : Reading → ℕ → List ℕ
+read_pool w room = unless_refused (read_refusal w room) (full_and_paid w.round)
 
 -- ---- the same as the code hands it on
 

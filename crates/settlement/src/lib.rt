@@ -1,15 +1,15 @@
-// Settling: the results of a finished round, and the cards lit for them, in two lists that the caller lends.
+// Settling: the results of a finished round, in a list that the caller lends.
 //
 // settle takes a round that a pad holds; settle_file and settle_prefix take a file of its records. Each answers every input and has no `requires`:
-// specs/Settle.antt says what is answered and what the lent lists then hold. The results are worked out by value, without a heap, and
-// copied into the lent lists once; a refusal is known before, and changes nothing there.
-ghost use Rattle.std.specs.Prelude.{◌≡◌, true, ◌&&◌, ◌+◌, ◌/◌, eqb, length};
+// specs/Settle.antt says what is answered and what the lent list then holds. The results are worked out by value, without a heap, and
+// copied into the lent list once; a refusal is known before, and changes nothing there.
+ghost use Rattle.std.specs.Prelude.{◌≡◌, true, ◌+◌, ◌/◌, length};
 ghost use Rattle.counting.specs.Choose.{unless_refused};
 ghost use Rattle.led.specs.Held.{is_held};
 ghost use Rattle.held.specs.Take.{Decides};
 ghost use Rattle.reading.specs.File.{read_file, read_prefix};
-ghost use Rattle.results.specs.Results.{results_long, results, result_marks};
-ghost use Rattle.settlement.specs.Settle.{both_fit, settle_refusal, settle_answer, settle_list, settle_number, settle_pool, full_and_paid, read_refusal, read_answer, read_list, file_answer, file_list, prefix_answer, prefix_list, file_number, file_place, file_pool, counted_place, read_pool, at_place};
+ghost use Rattle.results.specs.Results.{results_long};
+ghost use Rattle.settlement.specs.Settle.{settle_refusal, settle_answer, settle_list, settle_number, settle_pool, full_and_paid, read_refusal, read_answer, read_list, file_answer, file_list, prefix_answer, prefix_list, file_number, file_place, file_pool, counted_place, read_pool, at_place};
 
 use held::is_held;
 use reading::{Reading, read_file, read_prefix};
@@ -21,7 +21,7 @@ use round::Round;
 pub enum Settlement {
     // The pool in dollars, full and as paid.
     Paid { full: u64, paid: u64 },
-    // 17, 1 or 16; the lent lists are as they were.
+    // 17, 1 or 16; the lent list is as it was.
     Refused(u8),
 }
 
@@ -30,7 +30,7 @@ pub enum Settlement {
 pub enum FileSettlement {
     // The pool in dollars, full and as paid.
     Paid { full: u64, paid: u64 },
-    // The refusal's number, and the place of the record that it is for; the lent lists are as they were.
+    // The refusal's number, and the place of the record that it is for; the lent list is as it was.
     Refused { number: u8, place: usize },
 }
 
@@ -66,36 +66,17 @@ fn copy(from: &[u64], to: &mut [u64])
     }
 }
 
-fn copy_marks(from: &[u8], to: &mut [u8])
-    requires { length from.now ≡ length to.old }
-    ensures { to.new ≡ from.now }
-{
-    let mut k = 0;
-    while k < from.len() {
-        to[k] = from[k];
-        k += 1;
-    }
-}
-
-fn both_fit(amounts: usize, marks: usize) -> bool
-    ensures { result ≡ (eqb amounts results_long && eqb marks results_long) }
-{
-    (amounts == RESULTS) & (marks == RESULTS)
-}
-
-// A round that may be held, and lists of the right length: 16, or its results.
-fn settle_held(round: Round, amounts: &mut [u64], marks: &mut [u8]) -> Settlement
-    requires { (is_held round ≡ true) × (both_fit amounts.old marks.old ≡ true) }
-    ensures answer { result ≡ settle_answer round (both_fit amounts.old marks.old) }
-    ensures amounts { amounts.new ≡ settle_list results round (both_fit amounts.old marks.old) amounts.old }
-    ensures marks { marks.new ≡ settle_list result_marks round (both_fit amounts.old marks.old) marks.old }
+// A round that may be held, and a list of the right length: 16, or its results.
+fn settle_held(round: Round, results: &mut [u64]) -> Settlement
+    requires { (is_held round ≡ true) × (length results.old ≡ results_long) }
+    ensures answer { result ≡ settle_answer round (length results.old) }
+    ensures list { results.new ≡ settle_list round results.old }
 {
     if !round.is_finished() {
         return Settlement::Refused(16);
     }
     let settled = results_of(round);
-    copy(&settled.amounts, amounts);
-    copy_marks(&settled.marks, marks);
+    copy(&settled.amounts, results);
     Settlement::Paid {
         full: settled.full,
         paid: settled.paid,
@@ -103,21 +84,20 @@ fn settle_held(round: Round, amounts: &mut [u64], marks: &mut [u8]) -> Settlemen
 }
 
 // Settles a round that a pad holds: 17, 1, 16.
-pub fn settle(round: Round, amounts: &mut [u64], marks: &mut [u8]) -> Settlement
-    ensures answer { result ≡ settle_answer round (both_fit amounts.old marks.old) }
-    ensures number { settle_number result ≡ settle_refusal round (both_fit amounts.old marks.old) }
-    ensures pool { settle_pool result ≡ unless_refused (settle_refusal round (both_fit amounts.old marks.old)) (full_and_paid round) }
-    ensures amounts { amounts.new ≡ settle_list results round (both_fit amounts.old marks.old) amounts.old }
-    ensures marks { marks.new ≡ settle_list result_marks round (both_fit amounts.old marks.old) marks.old }
+pub fn settle(round: Round, results: &mut [u64]) -> Settlement
+    ensures answer { result ≡ settle_answer round (length results.old) }
+    ensures number { settle_number result ≡ settle_refusal round (length results.old) }
+    ensures pool { settle_pool result ≡ unless_refused (settle_refusal round (length results.old)) (full_and_paid round) }
+    ensures list { results.new ≡ settle_list round results.old }
     ensures held { Decides round (is_held round) }
 {
     if !is_held(round) {
         return Settlement::Refused(17);
     }
-    if !both_fit(amounts.len(), marks.len()) {
+    if results.len() != RESULTS {
         return Settlement::Refused(1);
     }
-    settle_held(round, amounts, marks)
+    settle_held(round, results)
 }
 
 fn at_place(place: usize, settlement: Settlement) -> FileSettlement
@@ -130,13 +110,12 @@ fn at_place(place: usize, settlement: Settlement) -> FileSettlement
 }
 
 // What was read of a file.
-fn settle_reading(reading: Reading, amounts: &mut [u64], marks: &mut [u8]) -> FileSettlement
+fn settle_reading(reading: Reading, results: &mut [u64]) -> FileSettlement
     requires { is_held reading.round ≡ true }
-    ensures answer { result ≡ read_answer reading (both_fit amounts.old marks.old) }
-    ensures amounts { amounts.new ≡ read_list results reading (both_fit amounts.old marks.old) amounts.old }
-    ensures marks { marks.new ≡ read_list result_marks reading (both_fit amounts.old marks.old) marks.old }
+    ensures answer { result ≡ read_answer reading (length results.old) }
+    ensures list { results.new ≡ read_list reading results.old }
 {
-    if !both_fit(amounts.len(), marks.len()) {
+    if results.len() != RESULTS {
         return FileSettlement::Refused {
             number: 1,
             place: 0,
@@ -147,36 +126,29 @@ fn settle_reading(reading: Reading, amounts: &mut [u64], marks: &mut [u8]) -> Fi
     if number != 0 {
         return FileSettlement::Refused { number, place };
     }
-    let settlement = settle_held(reading.round, amounts, marks);
+    let settlement = settle_held(reading.round, results);
     at_place(place, settlement)
 }
 
 // Settles a file: 1, 2, then record by record, 16.
-pub fn settle_file(file: &[u8], amounts: &mut [u64], marks: &mut [u8]) -> FileSettlement
-    ensures answer { result ≡ file_answer file.now (both_fit amounts.old marks.old) }
-    ensures number { file_number result ≡ read_refusal (read_file file.now) (both_fit amounts.old marks.old) }
-    ensures place { file_place result ≡ counted_place (read_file file.now) (length file.now / 16) (both_fit amounts.old marks.old) }
-    ensures pool { file_pool result ≡ read_pool (read_file file.now) (both_fit amounts.old marks.old) }
-    ensures amounts { amounts.new ≡ file_list results file.now (both_fit amounts.old marks.old) amounts.old }
-    ensures marks { marks.new ≡ file_list result_marks file.now (both_fit amounts.old marks.old) marks.old }
+pub fn settle_file(file: &[u8], results: &mut [u64]) -> FileSettlement
+    ensures answer { result ≡ file_answer file.now (length results.old) }
+    ensures number { file_number result ≡ read_refusal (read_file file.now) (length results.old) }
+    ensures place { file_place result ≡ counted_place (read_file file.now) (length file.now / 16) (length results.old) }
+    ensures pool { file_pool result ≡ read_pool (read_file file.now) (length results.old) }
+    ensures list { results.new ≡ file_list file.now results.old }
 {
-    settle_reading(read_file(file), amounts, marks)
+    settle_reading(read_file(file), results)
 }
 
 // Settles a file of which the first bytes are held, and of the rest how many come after. With the first 34 records, whatever comes after them,
 // the answer is that of the whole file.
-pub fn settle_prefix(
-    first: &[u8],
-    after: usize,
-    amounts: &mut [u64],
-    marks: &mut [u8],
-) -> FileSettlement
-    ensures answer { result ≡ prefix_answer first.now after (both_fit amounts.old marks.old) }
-    ensures number { file_number result ≡ read_refusal (read_prefix first.now after) (both_fit amounts.old marks.old) }
-    ensures place { file_place result ≡ counted_place (read_prefix first.now after) ((length first.now + after) / 16) (both_fit amounts.old marks.old) }
-    ensures pool { file_pool result ≡ read_pool (read_prefix first.now after) (both_fit amounts.old marks.old) }
-    ensures amounts { amounts.new ≡ prefix_list results first.now after (both_fit amounts.old marks.old) amounts.old }
-    ensures marks { marks.new ≡ prefix_list result_marks first.now after (both_fit amounts.old marks.old) marks.old }
+pub fn settle_prefix(first: &[u8], after: usize, results: &mut [u64]) -> FileSettlement
+    ensures answer { result ≡ prefix_answer first.now after (length results.old) }
+    ensures number { file_number result ≡ read_refusal (read_prefix first.now after) (length results.old) }
+    ensures place { file_place result ≡ counted_place (read_prefix first.now after) ((length first.now + after) / 16) (length results.old) }
+    ensures pool { file_pool result ≡ read_pool (read_prefix first.now after) (length results.old) }
+    ensures list { results.new ≡ prefix_list first.now after results.old }
 {
-    settle_reading(read_prefix(first, after), amounts, marks)
+    settle_reading(read_prefix(first, after), results)
 }

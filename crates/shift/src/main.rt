@@ -1,10 +1,9 @@
 // Settles the shift on standard input, rounds joined end to end: what each gives, a line a round.
 //
 // A shift is a run of 16-byte records. Record 0 starts a round, and so does every later record of kind 1. Printed is, of a round that is settled, `paid`, its 35 amounts in
-// cents (seats 1 to 7, each base, Board, Pocket, Lo Ball, All-Six), `pool` and the pool in dollars, full and as paid, `lit` and the 35 marks at the same places: the sum of 1, 2, 4
-// for the community cards lit, 8 for the All-Six card, 16 and 32 for the seat's two. Of a refused one it is `refused N at R`, the refusal's number and its place within the round. A
-// shift that isn't whole records prints only `refused 2 at R`, and an empty one nothing. Nothing is printed before all is settled, and nothing where a read fails: that, a write
-// that fails, and a shift of more than 4096 rounds or 2162688 bytes, is told on standard error.
+// cents (seats 1 to 7, each base, Board, Pocket, Lo Ball, All-Six), `pool` and the pool in dollars, full and as paid; of a refused one `refused N at R`, the
+// refusal's number and its place within the round. A shift that isn't whole records prints only `refused 2 at R`, and an empty one nothing. Nothing is printed before
+// all is settled, and nothing where a read fails: that, a write that fails, and a shift of more than 4096 rounds or 2162688 bytes, is told on standard error.
 //
 // Called with `--status`, it writes to file descriptor 3: 0 where the shift is settled, whatever its rounds are, 1 where it is refused, 2 for a fault. It takes no
 // other argument.
@@ -12,18 +11,17 @@
 // Example:
 //     head -c 224 samples/shift.bin | ./run shift
 // prints
-//     paid 2183300 20500 10500 0 0 516700 0 0 0 0 0 0 0 0 0 0 0 0 0 0 0 0 0 0 0 0 0 0 0 0 0 0 0 0 0 pool 600000 25000 lit 55 7 48 0 0 55 0 0 0 0 0 0 0 0 0 0 0 0 0 0 0 0 0 0 0 0 0 0 0 0 0 0 0 0 0
+//     paid 2183300 20500 10500 0 0 516700 0 0 0 0 0 0 0 0 0 0 0 0 0 0 0 0 0 0 0 0 0 0 0 0 0 0 0 0 0 pool 600000 25000
 //     refused 16 at 1
 //
-// The amounts, the marks and the refusals are those of the lists that settle_shift fills; it tells no pool, so each round's comes from its own call. What is read and printed is
+// The amounts and the refusals are those of the lists that settle_shift fills; it tells no pool, so each round's comes from its own call. What is read and printed is
 // tested, not proved.
 use cutting::{count_rounds, first_round};
 use pipes::{Outcome, called, end, print, read_all, tell};
 use results::RESULTS;
-use rows::print_refused;
 use settlement::{FileSettlement, settle_file};
 use shifts::{ANSWER, ShiftAnswer, settle_shift};
-use text::{put_bytes, put_line, put_list, put_named, put_small};
+use text::{put_line, put_list, put_named};
 
 const NAME: [u8; 5] = *b"shift";
 
@@ -38,68 +36,68 @@ const ANSWERS: usize = ANSWER * ROUNDS;
 
 const TOO_LONG: [u8; 43] = *b"holds at most 4096 rounds and 2162688 bytes";
 
+fn put_refused(line: &mut [u8], number: u64, place: u64) -> usize {
+    let numbered = put_named(line, 0, b"refused ", number);
+    put_line(line, numbered, b" at", &[place])
+}
+
 fn put_answer(line: &mut [u8], answer: &[u64]) -> usize {
     if answer.len() != ANSWER {
         return 0;
     }
-    let numbered = put_named(line, 0, b"refused ", answer[0]);
-    put_line(line, numbered, b" at", &[answer[1]])
+    put_refused(line, answer[0], answer[1])
 }
 
-fn put_paid(line: &mut [u8], amounts: &[u64], marks: &[u8], full: u64, paid: u64) -> usize {
+fn put_paid(line: &mut [u8], amounts: &[u64], full: u64, paid: u64) -> usize {
     let listed = put_list(line, 0, b"paid", amounts);
-    let pooled = put_list(line, listed, b" pool", &[full, paid]);
-    let lit = put_small(line, pooled, b" lit", marks);
-    put_bytes(line, lit, b"\n")
+    put_line(line, listed, b" pool", &[full, paid])
 }
 
-fn put_round(line: &mut [u8], file: &[u8], amounts: &[u64], marks: &[u8], answer: &[u64]) -> usize {
+fn put_round(line: &mut [u8], file: &[u8], amounts: &[u64], answer: &[u64]) -> usize {
     let mut own = [0u64; RESULTS];
-    let mut lit = [0u8; RESULTS];
-    match settle_file(file, &mut own, &mut lit) {
-        FileSettlement::Paid { full, paid } => put_paid(line, amounts, marks, full, paid),
+    match settle_file(file, &mut own) {
+        FileSettlement::Paid { full, paid } => put_paid(line, amounts, full, paid),
         FileSettlement::Refused { number, place } => put_answer(line, answer),
     }
 }
 
-// A line is at most 35 amounts and the pool, of 20 digits each, and 35 marks of 3, so it fits its room.
-fn print_round(file: &[u8], amounts: &[u64], marks: &[u8], answer: &[u64]) -> bool {
+// A line is at most 35 amounts and the pool, of 20 digits each, so it fits its room.
+fn print_round(file: &[u8], amounts: &[u64], answer: &[u64]) -> bool {
     let mut line = [0u8; 1024];
-    let last = put_round(&mut line, file, amounts, marks, answer);
+    let last = put_round(&mut line, file, amounts, answer);
     print(&NAME, &line, last)
 }
 
-// The lists have a row for each round, since they were filled.
-fn print_rounds(file: &[u8], amounts: &[u64], marks: &[u8], answers: &[u64]) -> Outcome {
+// Both lists have a row for each round, since they were filled.
+fn print_rounds(file: &[u8], amounts: &[u64], answers: &[u64]) -> Outcome {
     let mut rest = file;
     let mut paid = amounts;
-    let mut lit = marks;
     let mut told = answers;
     while 16 <= rest.len() {
         if paid.len() < RESULTS {
-            return Outcome::Fault;
-        }
-        if lit.len() < RESULTS {
             return Outcome::Fault;
         }
         if told.len() < ANSWER {
             return Outcome::Fault;
         }
         let end = first_round(rest);
-        if !print_round(
-            &rest[..end],
-            &paid[..RESULTS],
-            &lit[..RESULTS],
-            &told[..ANSWER],
-        ) {
+        if !print_round(&rest[..end], &paid[..RESULTS], &told[..ANSWER]) {
             return Outcome::Fault;
         }
         rest = &rest[end..];
         paid = &paid[RESULTS..];
-        lit = &lit[RESULTS..];
         told = &told[ANSWER..];
     }
     Outcome::Done
+}
+
+fn print_refused(number: u8, place: usize) -> Outcome {
+    let mut line = [0u8; 64];
+    let last = put_refused(&mut line, number as u64, place as u64);
+    if print(&NAME, &line, last) {
+        return Outcome::Refused;
+    }
+    Outcome::Fault
 }
 
 fn too_many() -> Outcome {
@@ -108,31 +106,26 @@ fn too_many() -> Outcome {
 }
 
 // Into lists that may be longer than the rounds need.
-fn settled(file: &[u8], room: &mut [u64], lit: &mut [u8], told: &mut [u64]) -> Outcome {
+fn settled(file: &[u8], room: &mut [u64], told: &mut [u64]) -> Outcome {
     let rounds = count_rounds(file);
     if room.len() / RESULTS < rounds {
-        return too_many();
-    }
-    if lit.len() / RESULTS < rounds {
         return too_many();
     }
     if told.len() / ANSWER < rounds {
         return too_many();
     }
     let amounts: &mut [u64] = &mut room[..RESULTS * rounds];
-    let marks: &mut [u8] = &mut lit[..RESULTS * rounds];
     let answers: &mut [u64] = &mut told[..ANSWER * rounds];
-    match settle_shift(file, amounts, marks, answers) {
-        ShiftAnswer::Settled { rounds } => print_rounds(file, amounts, marks, answers),
-        ShiftAnswer::Refused { number, place } => print_refused(&NAME, number, place),
+    match settle_shift(file, amounts, answers) {
+        ShiftAnswer::Settled { rounds } => print_rounds(file, amounts, answers),
+        ShiftAnswer::Refused { number, place } => print_refused(number, place),
     }
 }
 
 fn settled_in_rooms(file: &[u8]) -> Outcome {
     let mut room = [0u64; AMOUNTS];
-    let mut lit = [0u8; AMOUNTS];
     let mut told = [0u64; ANSWERS];
-    settled(file, &mut room, &mut lit, &mut told)
+    settled(file, &mut room, &mut told)
 }
 
 fn read_and_settled(room: &mut [u8]) -> Outcome {

@@ -10,38 +10,44 @@ use lib.ListN.{length}
 use borrow.Author.Tests.{ne_eqb, eqb-true}
 use Rattle.counting.specs.Choose.{if◌then◌else◌, unless_refused}
 use Rattle.counting.proofs.Answers.{by_number, by_values}
+use Rattle.counting.proofs.Tests.{and_true}
 use Rattle.results.specs.Results.{results_long}
 use Rattle.cutting.specs.Rounds.{round_count}
 use Rattle.shifts.specs.declared.ShiftAnswer.{ShiftAnswer}
 use Rattle.shifts.specs.declared.ShiftAnswer.TheVariants.{Settled, Refused}
-use Rattle.shifts.specs.Shift.{round_amounts, round_marks, round_answer, answer_long, in_turn, lists_fit, shift_refusal, shift_place, shift_answer, shift_list, shift_number, answer_place, answer_rounds}
+use Rattle.shifts.specs.Shift.{round_amounts, round_answer, answer_long, in_turn, lists_fit, shift_refusal, shift_place, shift_answer, shift_list, shift_number, answer_place, answer_rounds}
 
--- what the code finds of the lists, by the number of rounds
-pub fit_told : (l amounts marks answers : List ℕ) (rounds : ℕ) (t : Bool) → rounds ≡ round_count l
-    → t ≡ (eqb (length amounts) (results_long * rounds) && (eqb (length marks) (results_long * rounds) && eqb (length answers) (answer_long * rounds)))
-    → lists_fit l amounts marks answers ≡ t
-fit_told l amounts marks answers rounds t n e = rw (← n) (sym e)
+-- what the code finds of both lists, by the number of rounds
+pub fit_told : (l amounts answers : List ℕ) (rounds : ℕ) (t : Bool) → rounds ≡ round_count l
+    → t ≡ (eqb (length amounts) (results_long * rounds) && eqb (length answers) (answer_long * rounds)) → lists_fit l amounts answers ≡ t
+fit_told l amounts answers rounds t n e = rw (← n) (sym e)
 
-module _ (l : List ℕ) (fit : Bool) (amounts marks answers : List ℕ) where
-  -- the answer, and the lists
-  abbrev pub Settles : ShiftAnswer → List ℕ → List ℕ → List ℕ → Type 0
-  Settles answer xs ms ys =
-      (answer ≡ shift_answer l fit)
-      × ((xs ≡ shift_list round_amounts l fit amounts) × ((ms ≡ shift_list round_marks l fit marks) × (ys ≡ shift_list round_answer l fit answers)))
+-- both lists are right
+pub both_right : (l amounts answers : List ℕ) → lists_fit l amounts answers ≡ true
+    → (length amounts ≡ results_long * round_count l) × (length answers ≡ answer_long * round_count l)
+both_right l amounts answers t =
+    let s = and_true (eqb (length amounts) (results_long * round_count l)) (eqb (length answers) (answer_long * round_count l)) t in
+    (eqb-true _ _ s.0, eqb-true _ _ s.1)
 
-  pub odd_tail : (length l % 16 ≡ 0 → ⊥) → Settles (Refused 2 (length l / 16)) amounts marks answers
+module _ (l : List ℕ) (fit : Bool) (amounts answers : List ℕ) where
+  -- the answer, and both lists
+  abbrev pub Settles : ShiftAnswer → List ℕ → List ℕ → Type 0
+  Settles answer xs ys =
+      (answer ≡ shift_answer l fit) × ((xs ≡ shift_list round_amounts l fit amounts) × (ys ≡ shift_list round_answer l fit answers))
+
+  pub odd_tail : (length l % 16 ≡ 0 → ⊥) → Settles (Refused 2 (length l / 16)) amounts answers
   unfolding shift_refusal shift_place shift_answer shift_list
-  odd_tail n = let odd = ne_eqb (length l % 16) 0 n in (simp odd, (simp odd, (simp odd, simp odd)))
+  odd_tail n = let odd = ne_eqb (length l % 16) 0 n in (simp odd, (simp odd, simp odd))
 
   module _ (even : length l % 16 ≡ 0) where
-    pub wrong_lists : fit ≡ false → Settles (Refused 1 0) amounts marks answers
+    pub wrong_lists : fit ≡ false → Settles (Refused 1 0) amounts answers
     unfolding shift_refusal shift_place shift_answer shift_list
-    wrong_lists f = (simp (even, f), (simp (even, f), (simp (even, f), simp (even, f))))
+    wrong_lists f = (simp (even, f), (simp (even, f), simp (even, f)))
 
-    pub all_settled : fit ≡ true → (rounds : ℕ) (xs ms ys : List ℕ) → rounds ≡ round_count l → xs ≡ in_turn round_amounts l → ms ≡ in_turn round_marks l → ys ≡ in_turn round_answer l
-        → Settles (Settled rounds) xs ms ys
+    pub all_settled : fit ≡ true → (rounds : ℕ) (xs ys : List ℕ) → rounds ≡ round_count l → xs ≡ in_turn round_amounts l → ys ≡ in_turn round_answer l
+        → Settles (Settled rounds) xs ys
     unfolding shift_refusal shift_place shift_answer shift_list
-    all_settled f rounds xs ms ys n a b d = (simp (even, f, n), (simp (even, f) a, (simp (even, f) b, simp (even, f) d)))
+    all_settled f rounds xs ys n a b = (simp (even, f, n), (simp (even, f) a, simp (even, f) b))
 
 module _ (l : List ℕ) (fit : Bool) where
   abbrev answer_by : Bool → ShiftAnswer
@@ -68,14 +74,13 @@ module _ (l : List ℕ) (fit : Bool) where
       go true true = refl
 
 -- what settle_shift promises
-pub shift_promised : (l : List ℕ) (fit : Bool) (amounts marks answers : List ℕ) (answer : ShiftAnswer) (xs ms ys : List ℕ)
-    → Settles l fit amounts marks answers answer xs ms ys
+pub shift_promised : (l : List ℕ) (fit : Bool) (amounts answers : List ℕ) (answer : ShiftAnswer) (xs ys : List ℕ) → Settles l fit amounts answers answer xs ys
     → (answer ≡ shift_answer l fit)
     × ((shift_number answer ≡ shift_refusal l fit)
     × ((answer_place answer ≡ shift_place l)
     × ((answer_rounds answer ≡ unless_refused (shift_refusal l fit) (round_count l ∷ []))
-    × ((xs ≡ shift_list round_amounts l fit amounts) × ((ms ≡ shift_list round_marks l fit marks) × (ys ≡ shift_list round_answer l fit answers))))))
-shift_promised l fit amounts marks answers answer xs ms ys s = (
+    × ((xs ≡ shift_list round_amounts l fit amounts) × (ys ≡ shift_list round_answer l fit answers)))))
+shift_promised l fit amounts answers answer xs ys s = (
   s.0,
   (ap shift_number s.0 ∙ shift_number_lem l fit, (ap answer_place s.0 ∙ shift_place_lem l fit, (ap answer_rounds s.0 ∙ shift_rounds_lem l fit, s.1))),
 )

@@ -1,9 +1,9 @@
 -- A shift: rounds joined end to end, settled in one call.
 -- Assumes nothing.
-use Rattle.std.specs.Prelude.{ℕ, ◌*◌, ◌/◌, ◌%◌, Bool, true, not, ◌&&◌, List, [], ◌∷◌, map, eqb, length, replicate}
+use Rattle.std.specs.Prelude.{ℕ, ◌*◌, ◌/◌, ◌%◌, Bool, not, ◌&&◌, List, [], ◌∷◌, map, eqb, length, replicate}
 use Rattle.counting.specs.Choose.{if◌then◌else◌}
 use Rattle.reading.specs.Joined.{joined}
-use Rattle.results.specs.Results.{results_long, results, result_marks}
+use Rattle.results.specs.Results.{results_long}
 use Rattle.settlement.specs.Settle.{file_answer, file_list, file_number, file_place}
 use Rattle.cutting.specs.Rounds.{shift_rounds, round_count}
 use Rattle.shifts.specs.declared.ShiftAnswer.{ShiftAnswer}
@@ -11,17 +11,13 @@ use Rattle.shifts.specs.declared.ShiftAnswer.TheVariants.{Settled, Refused}
 
 -- ---- what each round gives
 
--- Each round's results equal those of its own call, which is lent zeros: a refused round's amounts are zeros,
+-- Each round's results equal those of its own call, which is lent zeros: a refused round's amounts are zeros.
 unfoldable pub round_amounts : List ℕ → List ℕ
-round_amounts l = file_list results l true (replicate results_long 0)
-
--- and its marks are zeros.
-unfoldable pub round_marks : List ℕ → List ℕ
-round_marks l = file_list result_marks l true (replicate results_long 0)
+round_amounts l = file_list l (replicate results_long 0)
 
 -- Each round's answer equals that of its own call: refusal number and place within the round, 0 and 0 when settled.
 unfoldable pub round_answer : List ℕ → List ℕ
-round_answer l = file_number (file_answer l true) ∷ file_place (file_answer l true) ∷ []
+round_answer l = file_number (file_answer l results_long) ∷ file_place (file_answer l results_long) ∷ []
 
 -- how many numbers these are
 abbrev pub answer_long : ℕ
@@ -33,12 +29,11 @@ in_turn give l = joined (map give (shift_rounds l))
 
 -- ---- the call
 
--- One lent list takes 35 amounts a round, a second as long the marks, the other two numbers a round: each is exactly that long for the number of rounds.
-abbrev pub lists_fit : List ℕ → List ℕ → List ℕ → List ℕ → Bool
-lists_fit l amounts marks answers =
-    eqb (length amounts) (results_long * round_count l) && (eqb (length marks) (results_long * round_count l) && eqb (length answers) (answer_long * round_count l))
+-- One lent list takes 35 amounts a round, the other two numbers a round: each is exactly that long for the number of rounds.
+abbrev pub lists_fit : List ℕ → List ℕ → List ℕ → Bool
+lists_fit l amounts answers = eqb (length amounts) (results_long * round_count l) && eqb (length answers) (answer_long * round_count l)
 
--- The number of the refusal, 0 where there is none. 2: the file's length isn't a multiple of 16. Then 1: some list isn't exactly that long. (fit: whether all are.)
+-- The number of the refusal, 0 where there is none. 2: the file's length isn't a multiple of 16. Then 1: either list isn't exactly that long. (fit: whether both are.)
 unfoldable pub shift_refusal : List ℕ → Bool → ℕ
 shift_refusal l fit =
     if not (eqb (length l % 16) 0) then 2

@@ -1,41 +1,31 @@
 // A shift in one call: rounds joined end to end, each settled as its own file is.
 //
-// One lent list takes the amounts of each round, a second the cards lit for them, the third its refusal's number and place within the round. A refused round's amounts and
-// marks are zeros, and it spoils no other. The file is gone over twice from the front, once to count its rounds and once to settle them; nothing of it is held. A refusal is known before anything is
+// One lent list takes the amounts of each round, the other its refusal's number and place within the round. A refused round's amounts are zeros, and it spoils no
+// other. The file is gone over twice from the front, once to count its rounds and once to settle them; nothing of it is held. A refusal is known before anything is
 // written. specs/Shift.antt says what is answered and what the lists then hold.
 ghost use Rattle.std.specs.Prelude.{◌≡◌, ◌&&◌, ◌∷◌, [], ◌<◌, ◌*◌, eqb, length, replicate};
 ghost use Rattle.counting.specs.Choose.{unless_refused};
 ghost use Rattle.cutting.specs.Rounds.{round_count};
 ghost use Rattle.results.specs.Results.{results_long};
-ghost use Rattle.shifts.specs.Shift.{round_amounts, round_marks, round_answer, answer_long, in_turn, lists_fit, shift_refusal, shift_place, shift_answer, shift_list, shift_number, answer_place, answer_rounds, rounds_told, place_told};
+ghost use Rattle.shifts.specs.Shift.{round_amounts, round_answer, answer_long, in_turn, lists_fit, shift_refusal, shift_place, shift_answer, shift_list, shift_number, answer_place, answer_rounds, rounds_told, place_told};
 
 use cutting::{count_rounds, first_round};
 use results::RESULTS;
 use settlement::{file_number, file_place, settle_file};
 
-// How many numbers a round has in the third list: its refusal's number and place.
+// How many numbers a round has in the second list: its refusal's number and place.
 pub const ANSWER: usize = 2;
 
 // The answer to a shift.
 #[derive(Drop)]
 pub enum ShiftAnswer {
-    // How many rounds it has. The lists hold what each of them gives.
+    // How many rounds it has. Both lists hold what each of them gives.
     Settled { rounds: usize },
-    // 2 or 1, and its place; the lists are as they were.
+    // 2 or 1, and its place; both lists are as they were.
     Refused { number: u8, place: usize },
 }
 
 fn clear(list: &mut [u64])
-    ensures { list.new ≡ replicate (length list.old) 0 }
-{
-    let mut i = 0;
-    while i < list.len() {
-        list[i] = 0;
-        i += 1;
-    }
-}
-
-fn clear_marks(list: &mut [u8])
     ensures { list.new ≡ replicate (length list.old) 0 }
 {
     let mut i = 0;
@@ -54,15 +44,13 @@ fn tell(number: u64, place: u64, answer: &mut [u64])
 }
 
 // One round into its own part of each list.
-fn settle_one(file: &[u8], amounts: &mut [u64], marks: &mut [u8], answer: &mut [u64])
-    requires { (length amounts.old ≡ results_long) × ((length marks.old ≡ results_long) × (length answer.old ≡ answer_long)) }
+fn settle_one(file: &[u8], amounts: &mut [u64], answer: &mut [u64])
+    requires { (length amounts.old ≡ results_long) × (length answer.old ≡ answer_long) }
     ensures amounts { amounts.new ≡ round_amounts file.now }
-    ensures marks { marks.new ≡ round_marks file.now }
     ensures answer { answer.new ≡ round_answer file.now }
 {
     clear(amounts);
-    clear_marks(marks);
-    let settlement = settle_file(file, amounts, marks);
+    let settlement = settle_file(file, amounts);
     tell(
         file_number(settlement) as u64,
         file_place(settlement) as u64,
@@ -71,10 +59,9 @@ fn settle_one(file: &[u8], amounts: &mut [u64], marks: &mut [u8], answer: &mut [
 }
 
 // Every round, into lists that are as long as they all need.
-fn settle_rounds(file: &[u8], amounts: &mut [u64], marks: &mut [u8], answers: &mut [u64])
-    requires { (length amounts.old ≡ results_long * round_count file.now) × ((length marks.old ≡ results_long * round_count file.now) × (length answers.old ≡ answer_long * round_count file.now)) }
+fn settle_rounds(file: &[u8], amounts: &mut [u64], answers: &mut [u64])
+    requires { (length amounts.old ≡ results_long * round_count file.now) × (length answers.old ≡ answer_long * round_count file.now) }
     ensures amounts { amounts.new ≡ in_turn round_amounts file.now }
-    ensures marks { marks.new ≡ in_turn round_marks file.now }
     ensures answers { answers.new ≡ in_turn round_answer file.now }
 {
     let mut start = 0;
@@ -88,7 +75,6 @@ fn settle_rounds(file: &[u8], amounts: &mut [u64], marks: &mut [u8], answers: &m
         settle_one(
             &file[start..end],
             &mut amounts[at..to],
-            &mut marks[at..to],
             &mut answers[told..said],
         );
         start = end;
@@ -104,26 +90,20 @@ fn fits(rounds: usize, each: usize, room: usize) -> bool
     (room % each == 0) & (room / each == rounds)
 }
 
-fn lists_fit(rounds: usize, amounts: usize, marks: usize, answers: usize) -> bool
-    ensures { result ≡ (eqb amounts (results_long * rounds) && (eqb marks (results_long * rounds) && eqb answers (answer_long * rounds))) }
+fn lists_fit(rounds: usize, room: usize, told: usize) -> bool
+    ensures { result ≡ (eqb room (results_long * rounds) && eqb told (answer_long * rounds)) }
 {
-    fits(rounds, RESULTS, amounts) & (fits(rounds, RESULTS, marks) & fits(rounds, ANSWER, answers))
+    fits(rounds, RESULTS, room) & fits(rounds, ANSWER, told)
 }
 
-// Settles a shift: 2, then 1. count_rounds tells how long the lists have to be, 35 amounts, 35 marks and two numbers for each round.
-pub fn settle_shift(
-    file: &[u8],
-    amounts: &mut [u64],
-    marks: &mut [u8],
-    answers: &mut [u64],
-) -> ShiftAnswer
-    ensures answer { result ≡ shift_answer file.now (lists_fit file.now amounts.old marks.old answers.old) }
-    ensures number { shift_number result ≡ shift_refusal file.now (lists_fit file.now amounts.old marks.old answers.old) }
+// Settles a shift: 2, then 1. count_rounds tells how long the lists have to be, 35 amounts and two numbers for each round.
+pub fn settle_shift(file: &[u8], amounts: &mut [u64], answers: &mut [u64]) -> ShiftAnswer
+    ensures answer { result ≡ shift_answer file.now (lists_fit file.now amounts.old answers.old) }
+    ensures number { shift_number result ≡ shift_refusal file.now (lists_fit file.now amounts.old answers.old) }
     ensures place { answer_place result ≡ shift_place file.now }
-    ensures rounds { answer_rounds result ≡ unless_refused (shift_refusal file.now (lists_fit file.now amounts.old marks.old answers.old)) (round_count file.now ∷ []) }
-    ensures amounts { amounts.new ≡ shift_list round_amounts file.now (lists_fit file.now amounts.old marks.old answers.old) amounts.old }
-    ensures marks { marks.new ≡ shift_list round_marks file.now (lists_fit file.now amounts.old marks.old answers.old) marks.old }
-    ensures answers { answers.new ≡ shift_list round_answer file.now (lists_fit file.now amounts.old marks.old answers.old) answers.old }
+    ensures rounds { answer_rounds result ≡ unless_refused (shift_refusal file.now (lists_fit file.now amounts.old answers.old)) (round_count file.now ∷ []) }
+    ensures amounts { amounts.new ≡ shift_list round_amounts file.now (lists_fit file.now amounts.old answers.old) amounts.old }
+    ensures answers { answers.new ≡ shift_list round_answer file.now (lists_fit file.now amounts.old answers.old) answers.old }
 {
     if file.len() % 16 != 0 {
         return ShiftAnswer::Refused {
@@ -132,13 +112,13 @@ pub fn settle_shift(
         };
     }
     let rounds = count_rounds(file);
-    if !lists_fit(rounds, amounts.len(), marks.len(), answers.len()) {
+    if !lists_fit(rounds, amounts.len(), answers.len()) {
         return ShiftAnswer::Refused {
             number: 1,
             place: 0,
         };
     }
-    settle_rounds(file, amounts, marks, answers);
+    settle_rounds(file, amounts, answers);
     ShiftAnswer::Settled { rounds }
 }
 
@@ -175,19 +155,17 @@ fn place_told(answer: ShiftAnswer, was: usize) -> usize
 pub fn settle_told(
     file: &[u8],
     amounts: &mut [u64],
-    marks: &mut [u8],
     answers: &mut [u64],
     rounds: &mut usize,
     place: &mut usize,
 ) -> u8
-    ensures number { result ≡ shift_refusal file.now (lists_fit file.now amounts.old marks.old answers.old) }
-    ensures amounts { amounts.new ≡ shift_list round_amounts file.now (lists_fit file.now amounts.old marks.old answers.old) amounts.old }
-    ensures marks { marks.new ≡ shift_list round_marks file.now (lists_fit file.now amounts.old marks.old answers.old) marks.old }
-    ensures answers { answers.new ≡ shift_list round_answer file.now (lists_fit file.now amounts.old marks.old answers.old) answers.old }
-    ensures rounds { rounds.new ≡ rounds_told (shift_answer file.now (lists_fit file.now amounts.old marks.old answers.old)) rounds.old }
-    ensures place { place.new ≡ place_told (shift_answer file.now (lists_fit file.now amounts.old marks.old answers.old)) place.old }
+    ensures number { result ≡ shift_refusal file.now (lists_fit file.now amounts.old answers.old) }
+    ensures amounts { amounts.new ≡ shift_list round_amounts file.now (lists_fit file.now amounts.old answers.old) amounts.old }
+    ensures answers { answers.new ≡ shift_list round_answer file.now (lists_fit file.now amounts.old answers.old) answers.old }
+    ensures rounds { rounds.new ≡ rounds_told (shift_answer file.now (lists_fit file.now amounts.old answers.old)) rounds.old }
+    ensures place { place.new ≡ place_told (shift_answer file.now (lists_fit file.now amounts.old answers.old)) place.old }
 {
-    let answer = settle_shift(file, amounts, marks, answers);
+    let answer = settle_shift(file, amounts, answers);
     *rounds = rounds_told(answer, *rounds);
     *place = place_told(answer, *place);
     shift_number(answer)

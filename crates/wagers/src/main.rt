@@ -71,35 +71,35 @@ const WAGERS: [[u8; 9]; 35] = [
 // What a pay table says of cards; of refused cards it says nothing.
 fn base_of(table: u8, cards: &[u8]) -> Pay {
     match names::name_five(cards) {
-        FiveAnswer::Name { name, lit } => odds::base_pay(table, name),
+        FiveAnswer::Name(name) => odds::base_pay(table, name),
         FiveAnswer::Refused(_) => Pay::NoTable,
     }
 }
 
 fn lo_of(table: u8, cards: &[u8]) -> Pay {
     match names::name_lo(cards) {
-        LoAnswer::Name { name, lit } => odds::lo_pay(table, name),
+        LoAnswer::Name(name) => odds::lo_pay(table, name),
         LoAnswer::Refused(_) => Pay::NoTable,
     }
 }
 
 fn board_of(table: u8, cards: &[u8]) -> Pay {
     match names::name_board(cards) {
-        BoardAnswer::Name { name, lit } => odds::board_pay(table, name),
+        BoardAnswer::Name(name) => odds::board_pay(table, name),
         BoardAnswer::Refused(_) => Pay::NoTable,
     }
 }
 
 fn pocket_of(table: u8, cards: &[u8]) -> Pay {
     match names::name_pocket(cards) {
-        PocketAnswer::Name { name, lit } => odds::pocket_pay(table, name),
+        PocketAnswer::Name(name) => odds::pocket_pay(table, name),
         PocketAnswer::Refused(_) => Pay::NoTable,
     }
 }
 
 fn six_of(table: u8, cards: &[u8]) -> Pay {
     match allsix::name_six(cards) {
-        SixAnswer::Name { name, lit } => odds::six_pay(table, name),
+        SixAnswer::Name(name) => odds::six_pay(table, name),
         SixAnswer::Refused(_) => Pay::NoTable,
     }
 }

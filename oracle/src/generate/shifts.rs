@@ -14,25 +14,12 @@ use crate::stream::LONGEST_FILE;
 /// What a shift has at most, and what is lent for one at most.
 pub const MOST_ROUNDS: usize = 40;
 pub const MOST_AMOUNTS: usize = 4_096;
-pub const MOST_MARKS: usize = 4_096;
 pub const MOST_ANSWERS: usize = 256;
-const MOST: [usize; 3] = [MOST_AMOUNTS, MOST_MARKS, MOST_ANSWERS];
 
 /// "No accepted file has more than 33 records."
 const LONGEST_ROUND: usize = 33;
 /// The results of a round without All-Six.
 const OLD_RESULTS: usize = 28;
-
-/// What is lent for a round of each list, and a number near it that is wrong.
-const A_ROUND: [usize; 3] = [RESULTS, RESULTS, ANSWERS];
-const NOT_A_ROUND: [usize; 3] = [OLD_RESULTS, OLD_RESULTS, 1];
-/// Which of amounts, marks and answers are wrong together.
-const TOGETHER: [[bool; 3]; 4] = [
-    [true, true, false],
-    [true, false, true],
-    [false, true, true],
-    [true, true, true],
-];
 
 pub struct ShiftGenerator {
     seed: u64,
@@ -58,17 +45,15 @@ impl ShiftGenerator {
         if odd {
             add_odd_bytes(&mut rng, &mut file);
         }
-        let wrong = rng.one_in(if odd || count == 0 { 2 } else { 4 });
-        let lists = if wrong {
+        let wrong = rng.one_in(if odd { 2 } else { 4 });
+        let [amounts, answers] = if wrong {
             wrong_lists(&mut rng, count)
         } else {
             right_lists(count)
         };
-        let [amounts, marks, answers] = lists.map(|length| length as u16);
         Item {
-            amounts,
-            marks,
-            answers,
+            amounts: amounts as u16,
+            answers: answers as u16,
             file,
         }
     }
@@ -97,14 +82,14 @@ impl ShiftGenerator {
 
     /// Adds what leads to a refused round, at least as a rule.
     fn add_spoilt(&self, rng: &mut Prng, file: &mut Vec<u8>) {
-        match rng.below(11) {
-            0..=2 => file.extend(self.cut_short(rng)),
-            3 => {
+        match rng.below(10) {
+            0 | 1 => file.extend(self.cut_short(rng)),
+            2 => {
                 file.extend(self.valid(rng));
                 self.add_stray(rng, file);
             }
-            4 => file.extend(self.with_table_inside(rng)),
-            5 => {
+            3 => file.extend(self.with_table_inside(rng)),
+            4 => {
                 for _ in 0..rng.between(1, 3) {
                     file.extend(self.table(rng));
                 }
@@ -260,63 +245,42 @@ fn add_odd_bytes(rng: &mut Prng, file: &mut Vec<u8>) {
     }
 }
 
-/// How many amounts, marks and answers are lent where some of the numbers are
-/// wrong for so many rounds: one alone, or some together.
-fn wrong_lists(rng: &mut Prng, rounds: usize) -> [usize; 3] {
-    let wrong = if rng.below(5) < 3 {
-        let list = rng.below(3);
-        [0, 1, 2].map(|other| other == list)
-    } else {
-        TOGETHER[rng.below(TOGETHER.len())]
-    };
+/// How many amounts and answers are lent where either number is wrong for so
+/// many rounds.
+fn wrong_lists(rng: &mut Prng, rounds: usize) -> [usize; 2] {
     let right = right_lists(rounds);
-    let fits = |lists: &[usize; 3]| lists.iter().zip(MOST).all(|(&length, most)| length <= most);
-    let as_wanted = |lists: &[usize; 3]| [0, 1, 2].map(|list| lists[list] != right[list]) == wrong;
+    let fits = |lists: &[usize; 2]| lists[0] <= MOST_AMOUNTS && lists[1] <= MOST_ANSWERS;
     loop {
-        let lists = some_lists(rng, rounds, wrong);
-        if let Some(lists) = lists.filter(fits).filter(as_wanted) {
-            return lists;
+        let lists = some_wrong_lists(rng, rounds).filter(fits);
+        if let Some(wrong) = lists.filter(|lists| *lists != right) {
+            return wrong;
         }
     }
 }
 
-/// One way of lending lists of which these are wrong, if there are rounds enough
-/// for it; the others are right.
-fn some_lists(rng: &mut Prng, rounds: usize, wrong: [bool; 3]) -> Option<[usize; 3]> {
-    let right = right_lists(rounds);
-    let alone = wrong.iter().filter(|wrong| **wrong).count() == 1;
-    let lists = match rng.below(10) {
-        _ if alone => each_wrong(rng, rounds)?,
-        0 => [0; 3],
-        1 | 2 => right_lists(rounds.checked_sub(1)?),
-        3 => right_lists(rounds + 1),
-        4 => right_lists(rng.below(MOST_ROUNDS + 1)),
-        // Amounts or marks exchanged with answers.
-        5..=7 => [right[2], right[2], right[0]],
-        _ => each_wrong(rng, rounds)?,
-    };
-    Some([0, 1, 2].map(|list| {
-        if wrong[list] {
-            lists[list]
-        } else {
-            right[list]
-        }
-    }))
-}
-
-/// Each list wrong in a way of its own.
-fn each_wrong(rng: &mut Prng, rounds: usize) -> Option<[usize; 3]> {
-    let mut lists = right_lists(rounds);
-    for (list, length) in lists.iter_mut().enumerate() {
-        *length = match rng.below(7) {
-            0 => length.checked_sub(1)?,
-            1 => *length + 1,
-            2 => length.checked_sub(A_ROUND[list])?,
-            3 => *length + A_ROUND[list],
-            4 => 0,
-            5 => NOT_A_ROUND[list] * rounds,
-            _ => rng.below(MOST[list] + 1),
-        };
-    }
-    Some(lists)
+/// One way of lending wrong lists, if there are rounds enough for it.
+fn some_wrong_lists(rng: &mut Prng, rounds: usize) -> Option<[usize; 2]> {
+    let [amounts, answers] = right_lists(rounds);
+    Some(match rng.below(20) {
+        0 => [amounts.checked_sub(1)?, answers],
+        1 => [amounts + 1, answers],
+        2 => [amounts.checked_sub(RESULTS)?, answers],
+        3 => [amounts + RESULTS, answers],
+        4 => [0, answers],
+        5 => [OLD_RESULTS * rounds, answers],
+        6 => [rng.below(MOST_AMOUNTS + 1), answers],
+        7 => [amounts, answers.checked_sub(1)?],
+        8 => [amounts, answers + 1],
+        9 => [amounts, answers.checked_sub(ANSWERS)?],
+        10 => [amounts, answers + ANSWERS],
+        11 => [amounts, 0],
+        12 => [amounts, rounds],
+        13 => [amounts, rng.below(MOST_ANSWERS + 1)],
+        14 => [answers, amounts],
+        15 => right_lists(rounds.checked_sub(1)?),
+        16 => right_lists(rounds + 1),
+        17 => right_lists(rng.below(MOST_ROUNDS + 1)),
+        18 => [0, 0],
+        _ => [rng.below(MOST_AMOUNTS + 1), rng.below(MOST_ANSWERS + 1)],
+    })
 }

@@ -1,12 +1,8 @@
-use mathlib.Core.Path.{◌≡◌, refl, ap, ap₂, ◌∙◌}
+use mathlib.Core.Path.{refl, ap₂, ◌∙◌}
 use mathlib.Core.List.{[], ◌∷◌}
 use native.Mathlib.Omega.{arith}
 use borrow.Author.Rules.{rules}
-use Rattle.lights.specs.Lit.{without}
-use Rattle.names.specs.declared.FiveName.{FiveName}
-use Rattle.allsix.specs.declared.Choice.{Choice}
-use Rattle.allsix.specs.Six.{best_up_to, out_up_to, or_better, choice_up_to}
-use Rattle.allsix.proofs.Best.{next_choice}
+use Rattle.allsix.specs.Six.{without, higher, best_up_to}
 use Rattle.allsix.proofs.Choices.{six_words, others_named}
 use Rattle.allsix.proofs.best_of_six.Statement.{statement}
 use Rattle.allsix.proofs.best_of_six.Tie as tie
@@ -65,8 +61,8 @@ is-suited5-requires-2 c κs = search rules
 five-of-word-requires-2 : tie.Need-five-of-word-requires-2
 five-of-word-requires-2 c κs = search rules
 
-or-better-requires : tie.Need-or-better-requires
-or-better-requires c κs = search rules
+higher-of-requires : tie.Need-higher-of-requires
+higher-of-requires c κs = search rules
 
 sub-five-of-word-3 : tie.Need-overflow-sub-five-of-word-3
 sub-five-of-word-3 c = search rules
@@ -77,8 +73,8 @@ is-suited5-requires-3 c κs = search rules
 five-of-word-requires-3 : tie.Need-five-of-word-requires-3
 five-of-word-requires-3 c κs = search rules
 
-or-better-requires-2 : tie.Need-or-better-requires-2
-or-better-requires-2 c κs = search rules
+higher-of-requires-2 : tie.Need-higher-of-requires-2
+higher-of-requires-2 c κs = search rules
 
 sub-five-of-word-4 : tie.Need-overflow-sub-five-of-word-4
 sub-five-of-word-4 c = search rules
@@ -89,8 +85,8 @@ is-suited5-requires-4 c κs = search rules
 five-of-word-requires-4 : tie.Need-five-of-word-requires-4
 five-of-word-requires-4 c κs = search rules
 
-or-better-requires-3 : tie.Need-or-better-requires-3
-or-better-requires-3 c κs = search rules
+higher-of-requires-3 : tie.Need-higher-of-requires-3
+higher-of-requires-3 c κs = search rules
 
 sub-five-of-word-5 : tie.Need-overflow-sub-five-of-word-5
 sub-five-of-word-5 c = search rules
@@ -101,8 +97,8 @@ is-suited5-requires-5 c κs = search rules
 five-of-word-requires-5 : tie.Need-five-of-word-requires-5
 five-of-word-requires-5 c κs = search rules
 
-or-better-requires-4 : tie.Need-or-better-requires-4
-or-better-requires-4 c κs = search rules
+higher-of-requires-4 : tie.Need-higher-of-requires-4
+higher-of-requires-4 c κs = search rules
 
 sub-five-of-word-6 : tie.Need-overflow-sub-five-of-word-6
 sub-five-of-word-6 c = search rules
@@ -113,11 +109,11 @@ is-suited5-requires-6 c κs = search rules
 five-of-word-requires-6 : tie.Need-five-of-word-requires-6
 five-of-word-requires-6 c κs = search rules
 
-or-better-requires-5 : tie.Need-or-better-requires-5
-or-better-requires-5 c κs = search rules
+higher-of-requires-5 : tie.Need-higher-of-requires-5
+higher-of-requires-5 c κs = search rules
 
 returns : tie.Need-returns
-unfolding best_up_to out_up_to without
+unfolding best_up_to without
 returns c =
     let h4 = c.before.before.before in
     let h3 = h4.before.before.before in
@@ -133,13 +129,7 @@ returns c =
     let no-d = others_named (v.a ∷ v.b ∷ v.c ∷ []) v.d (v.e ∷ v.f ∷ []) refl h3.before.five-of-word4.ensures all w.before.before.word14.ensures h3.before.before.is-suited54.ensures in
     let no-e = others_named (v.a ∷ v.b ∷ v.c ∷ v.d ∷ []) v.e (v.f ∷ []) refl h4.before.five-of-word5.ensures all w.before.word15.ensures h4.before.before.is-suited55.ensures in
     let no-f = others_named (v.a ∷ v.b ∷ v.c ∷ v.d ∷ v.e ∷ []) v.f [] refl c.before.five-of-word6.ensures all w.word16.ensures c.before.before.is-suited56.ensures in
-    let cs = v.a ∷ v.b ∷ v.c ∷ v.d ∷ v.e ∷ v.f ∷ [] in
-    let first : ◌≡◌ {A = Choice} (record { name = h0.five-of-word.result; out = 0 }) (choice_up_to 0 cs) = ap (λ (n : FiveName). record { name = n; out = 0 }) no-a in
-    let second = h1.or-better.ensures ∙ ap₂ (λ (n : FiveName) (b : Choice). or_better n 1 b) no-b first ∙ next_choice 0 cs in
-    let third = h2.or-better2.ensures ∙ ap₂ (λ (n : FiveName) (b : Choice). or_better n 2 b) no-c second ∙ next_choice 1 cs in
-    let fourth = h3.or-better3.ensures ∙ ap₂ (λ (n : FiveName) (b : Choice). or_better n 3 b) no-d third ∙ next_choice 2 cs in
-    let fifth = h4.or-better4.ensures ∙ ap₂ (λ (n : FiveName) (b : Choice). or_better n 4 b) no-e fourth ∙ next_choice 3 cs in
-    c.or-better5.ensures ∙ ap₂ (λ (n : FiveName) (b : Choice). or_better n 5 b) no-f fifth ∙ next_choice 4 cs
+    c.higher-of5.ensures ∙ ap₂ higher no-f (h4.higher-of4.ensures ∙ ap₂ higher no-e (h3.higher-of3.ensures ∙ ap₂ higher no-d (h2.higher-of2.ensures ∙ ap₂ higher no-c (h1.higher-of.ensures ∙ ap₂ higher no-b no-a))))
 
 pub best-of-six-spec : {M : Type 1} → statement M
 best-of-six-spec =
@@ -162,21 +152,21 @@ best-of-six-spec =
     sub-five-of-word-2
     is-suited5-requires-2
     five-of-word-requires-2
-    or-better-requires
+    higher-of-requires
     sub-five-of-word-3
     is-suited5-requires-3
     five-of-word-requires-3
-    or-better-requires-2
+    higher-of-requires-2
     sub-five-of-word-4
     is-suited5-requires-4
     five-of-word-requires-4
-    or-better-requires-3
+    higher-of-requires-3
     sub-five-of-word-5
     is-suited5-requires-5
     five-of-word-requires-5
-    or-better-requires-4
+    higher-of-requires-4
     sub-five-of-word-6
     is-suited5-requires-6
     five-of-word-requires-6
-    or-better-requires-5
+    higher-of-requires-5
     returns)

@@ -1,12 +1,9 @@
-use mathlib.Core.Path.{ap, ◌∙◌}
 use native.Mathlib.Omega.{arith}
 use borrow.Author.Rules.{rules}
 use Rattle.counting.specs.Count.{gather}
 use Rattle.hands.proofs.Refusals.{within}
 use Rattle.names.proofs.Answers.{is_refused, is_named_by}
-use Rattle.allsix.specs.declared.Six.{Six}
-use Rattle.allsix.specs.declared.SixAnswer.{SixAnswer}
-use Rattle.allsix.specs.Six.{named_six, answer_six}
+use Rattle.allsix.specs.Six.{name_six, answer_six}
 use Rattle.allsix.proofs.Answers.{six_promised}
 use Rattle.allsix.proofs.name_six.Statement.{statement}
 use Rattle.allsix.proofs.name_six.Tie as tie
@@ -16,7 +13,7 @@ hand-refusal-requires c κs = search rules
 
 returns : tie.Need-returns
 unfolding answer_six
-returns c = six_promised _ _ (is_refused _ _ _ _ c.before.hand-refusal.ensures c.if1.true)
+returns c = six_promised _ _ (is_refused _ _ _ _ _ c.before.hand-refusal.ensures c.if1.true)
 
 shared-slice-read-six-by-word : tie.Need-shared-slice-read-six-by-word
 shared-slice-read-six-by-word c = within 6 0 _ _ c.before.before.hand-refusal.ensures c.before.if1.false (omega arith)
@@ -39,12 +36,9 @@ shared-slice-read-six-by-word-6 c = within 6 5 _ _ c.before.before.before.before
 six-by-word-requires : tie.Need-six-by-word-requires
 six-by-word-requires c κs = search rules
 
-six-answered-requires : tie.Need-six-answered-requires
-six-answered-requires c κs = search rules
-
 returns-2 : tie.Need-returns-2
 unfolding answer_six gather
-returns-2 c = six_promised _ _ (is_named_by _ named_six 6 _ _ c.before.before.before.before.before.before.before.before.before.hand-refusal.ensures c.before.before.before.before.before.before.before.before.if1.false _ (c.six_answered.ensures ∙ ap (λ (s : Six). SixAnswer.Name s.name s.lit) c.before.six-by-word.ensures))
+returns-2 c = six_promised _ _ (is_named_by _ _ name_six 6 _ _ c.before.before.before.before.before.before.before.before.hand-refusal.ensures c.before.before.before.before.before.before.before.if1.false _ c.six-by-word.ensures)
 
 pub name-six-spec : {M : Type 1} → statement M
 name-six-spec =
@@ -59,5 +53,4 @@ name-six-spec =
     shared-slice-read-six-by-word-5
     shared-slice-read-six-by-word-6
     six-by-word-requires
-    six-answered-requires
     returns-2)

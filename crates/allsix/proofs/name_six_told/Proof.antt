@@ -9,17 +9,14 @@ name-six-requires c κs = search rules
 six-told-requires : tie.Need-six-told-requires
 six-told-requires c κs = search rules
 
-six-lit-requires : tie.Need-six-lit-requires
-six-lit-requires c κs = search rules
-
 six-number-requires : tie.Need-six-number-requires
 six-number-requires c κs = search rules
 
 returns : tie.Need-returns
 returns c =
-    let e = c.before.before.before.before.before.name-six.ensures in
-    (simp c.six_number_lem.ensures e.1.0, (simp (c.before.before.before.six-told.ensures, e.0) refl, simp (c.before.six-lit.ensures, e.0) refl))
+    let e = c.before.before.before.name-six.ensures in
+    (simp c.six_number_lem.ensures e.1.0, simp (c.before.six-told.ensures, e.0) refl)
 
 pub name-six-told-spec : {M : Type 1} → statement M
 name-six-told-spec =
-    tie.close (tie.spec name-six-requires six-told-requires six-lit-requires six-number-requires returns)
+    tie.close (tie.spec name-six-requires six-told-requires six-number-requires returns)

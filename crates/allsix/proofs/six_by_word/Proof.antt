@@ -1,42 +1,44 @@
 use mathlib.Core.Path.{sym, ◌∙◌}
-use Rattle.counting.specs.Count.{total}
-use Rattle.allsix.specs.Six.{royal_name, name_six, lit_six}
-use Rattle.allsix.proofs.Best.{out_most}
+use borrow.Author.Tests.{eq-eqb, ne_eqb}
 use borrow.Author.Rules.{rules}
+use Rattle.allsix.specs.Six.{name_six}
 use Rattle.allsix.proofs.six_by_word.Statement.{statement}
 use Rattle.allsix.proofs.six_by_word.Tie as tie
 
 is-six-royal-requires : tie.Need-is-six-royal-requires
 is-six-royal-requires c κs = search rules
 
-royal-of-requires : tie.Need-royal-of-requires
-royal-of-requires c κs = search rules
+slice-aggregate-of-suit : tie.Need-slice-aggregate-of-suit
+slice-aggregate-of-suit c = search rules
+
+of-suit-requires : tie.Need-of-suit-requires
+of-suit-requires c κs = search rules
 
 returns : tie.Need-returns
-unfolding total royal_name name_six lit_six
-returns c = simp (c.royal-of.ensures, sym c.before.before.is-six-royal.ensures ∙ c.before.if1.true)
+unfolding name_six
+returns c =
+    simp (sym c.before.before.before.before.is-six-royal.ensures ∙ c.before.before.before.if1.true, eq-eqb _ _ (sym c.before.of-suit.ensures ∙ c.if2.true))
+
+returns-2 : tie.Need-returns-2
+unfolding name_six
+returns-2 c =
+    simp (sym c.before.before.before.before.is-six-royal.ensures ∙ c.before.before.before.if1.true, ne_eqb _ _ (rw c.before.of-suit.ensures at c.if2.false))
 
 best-of-six-requires : tie.Need-best-of-six-requires
 best-of-six-requires c κs = search rules
 
-five-light-requires : tie.Need-five-light-requires
-five-light-requires c κs = search rules
-
-lit-but-requires : tie.Need-lit-but-requires
-lit-but-requires c κs = rw c.before.best-of-six.ensures (out_most _)
-
-returns-2 : tie.Need-returns-2
-unfolding name_six lit_six
-returns-2 c = simp (c.lit-but.ensures, c.before.five-light.ensures, c.before.before.best-of-six.ensures, sym c.before.before.before.before.is-six-royal.ensures ∙ c.before.before.before.if1.false)
+returns-3 : tie.Need-returns-3
+unfolding name_six
+returns-3 c = simp (sym c.before.before.is-six-royal.ensures ∙ c.before.if1.false, c.best-of-six.ensures)
 
 pub six-by-word-spec : {M : Type 1} → statement M
 six-by-word-spec =
     tie.close
     (tie.spec
     is-six-royal-requires
-    royal-of-requires
+    slice-aggregate-of-suit
+    of-suit-requires
     returns
+    returns-2
     best-of-six-requires
-    five-light-requires
-    lit-but-requires
-    returns-2)
+    returns-3)

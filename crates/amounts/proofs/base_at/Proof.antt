@@ -9,8 +9,8 @@ is-above-fifty-requires c κs = search rules
 win-at-requires : tie.Need-win-at-requires
 win-at-requires c κs = search rules
 
-mul-t7 : tie.Need-overflow-mul-t7
-mul-t7 c = search rules
+mul-t6 : tie.Need-overflow-mul-t6
+mul-t6 c = search rules
 
 returns : tie.Need-returns
 returns c = simp (c.win_at_lem.ensures, sym c.before.before.is-above-fifty.ensures ∙ c.before.if1.true)
@@ -27,7 +27,7 @@ base-at-spec =
     (tie.spec
     is-above-fifty-requires
     win-at-requires
-    mul-t7
+    mul-t6
     returns
     handed-back-requires
     returns-2)

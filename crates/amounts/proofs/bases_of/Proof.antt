@@ -4,22 +4,21 @@ use mathlib.Core.Path.{refl, ap}
 use native.Mathlib.Omega.{arith}
 use Rattle.amounts.specs.declared.Base.{Base}
 use Rattle.amounts.specs.Base.{win, kept, wins}
-use Rattle.amounts.specs.Marks.{base_mark}
 use Rattle.counting.proofs.Fills.{Each, each_none, each_more, each_all}
 use borrow.Author.Rules.{rules}
 use Rattle.amounts.proofs.bases_of.Statement.{statement}
 use Rattle.amounts.proofs.bases_of.Tie as tie
 
 abbrev invariant-loop : tie.invariant-loop
-invariant-loop round wins₀ kept₀ marks₀ k₀ row others lit k = (k ≤ 7) × Each 7 (win round) row k × Each 7 (kept round) others k × Each 7 (base_mark round) lit k
+invariant-loop round wins₀ kept₀ k₀ row others k = (k ≤ 7) × Each 7 (win round) row k × Each 7 (kept round) others k
 
 abbrev decreases-loop : tie.decreases-loop
-decreases-loop round wins₀ kept₀ marks₀ k₀ row others lit k = 7 - k
+decreases-loop round wins₀ kept₀ k₀ wins kept k = 7 - k
 
 loop-holds : tie.Need-loop-init invariant-loop decreases-loop
 loop-holds c =
     let r = c.args.round in
-    (search rules, each_none 7 (win r) (replicate 7 0) refl, each_none 7 (kept r) (replicate 7 0) refl, each_none 7 (base_mark r) (replicate 7 0) refl)
+    (search rules, each_none 7 (win r) (replicate 7 0) refl, each_none 7 (kept r) (replicate 7 0) refl)
 
 cast-base-of : tie.Need-overflow-cast-base-of invariant-loop decreases-loop
 cast-base-of c = search rules
@@ -39,9 +38,6 @@ mul-kept c = search rules
 array-write-kept : tie.Need-array-write-kept invariant-loop decreases-loop
 array-write-kept c = search rules
 
-array-write-marks : tie.Need-array-write-marks invariant-loop decreases-loop
-array-write-marks c = search rules
-
 add-k : tie.Need-overflow-add-k invariant-loop decreases-loop
 add-k c = search rules
 
@@ -53,14 +49,14 @@ loop-again c =
     let s = c.base-of.ensures in
     let v = c.before.before.loop.invariant in
     let h = c.before.loop-test.true in
-    (omega arith, each_more 7 _ _ _ _ v.1 h (ap (λ (b : Base). b.win) s), each_more 7 _ _ _ _ v.2 h (ap (λ (b : Base). b.kept) s), each_more 7 _ _ _ _ v.3 h (ap (λ (b : Base). b.mark) s))
+    (omega arith, each_more 7 _ _ _ _ v.1 h (ap (λ (b : Base). b.win) s), each_more 7 _ _ _ _ v.2 h (ap (λ (b : Base). b.kept) s))
 
 returns : tie.Need-returns invariant-loop decreases-loop
 unfolding wins
 returns c =
     let v = c.before.loop.invariant in
     let h = c.loop-test.false in
-    simp (each_all 7 _ _ _ v.1 h, each_all 7 _ _ _ v.2 h, each_all 7 _ _ _ v.3 h)
+    simp (each_all 7 _ _ _ v.1 h, each_all 7 _ _ _ v.2 h)
 
 pub bases-of-spec : {M : Type 1} → statement M
 bases-of-spec =
@@ -75,7 +71,6 @@ bases-of-spec =
     array-write-wins
     mul-kept
     array-write-kept
-    array-write-marks
     add-k
     loop-less
     loop-again

@@ -1,6 +1,5 @@
 use Rattle.holding.specs.Deal.{hole, community, five}
 use Rattle.amounts.specs.Base.{hand_of}
-use Rattle.amounts.specs.Marks.{hand_mark}
 use borrow.Author.Rules.{rules}
 use Rattle.amounts.proofs.hand_of.Statement.{statement}
 use Rattle.amounts.proofs.hand_of.Tie as tie
@@ -26,30 +25,9 @@ array-read-five-by-word-5 c = search rules
 five-by-word-requires : tie.Need-five-by-word-requires
 five-by-word-requires c κs = search rules
 
-five-light-requires : tie.Need-five-light-requires
-five-light-requires c κs = search rules
-
-array-read-five-mark : tie.Need-array-read-five-mark
-array-read-five-mark c = search rules
-
-array-read-five-mark-2 : tie.Need-array-read-five-mark-2
-array-read-five-mark-2 c = search rules
-
-array-read-five-mark-3 : tie.Need-array-read-five-mark-3
-array-read-five-mark-3 c = search rules
-
-array-read-five-mark-4 : tie.Need-array-read-five-mark-4
-array-read-five-mark-4 c = search rules
-
-array-read-five-mark-5 : tie.Need-array-read-five-mark-5
-array-read-five-mark-5 c = search rules
-
-five-mark-requires : tie.Need-five-mark-requires
-five-mark-requires c κs = search rules
-
 returns : tie.Need-returns
-unfolding hand_of hand_mark five community hole
-returns c = simp (c.five-mark.ensures, c.before.five-light.ensures, c.before.before.five-by-word.ensures, c.before.before.before.five-of.ensures)
+unfolding hand_of five community hole
+returns c = simp (c.five-by-word.ensures, c.before.five-of.ensures)
 
 pub hand-of-spec : {M : Type 1} → statement M
 hand-of-spec =
@@ -62,11 +40,4 @@ hand-of-spec =
     array-read-five-by-word-4
     array-read-five-by-word-5
     five-by-word-requires
-    five-light-requires
-    array-read-five-mark
-    array-read-five-mark-2
-    array-read-five-mark-3
-    array-read-five-mark-4
-    array-read-five-mark-5
-    five-mark-requires
     returns)

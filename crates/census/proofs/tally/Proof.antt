@@ -3,34 +3,28 @@ use Rattle.census.proofs.tally.Statement.{statement}
 use Rattle.census.proofs.tally.Tie as tie
 
 abbrev invariant-loop : tie.invariant-loop
-invariant-loop entry size hands hand₀ counts₀ lit₀ left₀ hand counts lit left = length hand ≡ 6
+invariant-loop entry size hands hand₀ counts₀ left₀ hand counts left = length hand ≡ 6
 
 abbrev decreases-loop : tie.decreases-loop
-decreases-loop entry size hands hand₀ counts₀ lit₀ left₀ hand counts lit left = left
+decreases-loop entry size hands hand₀ counts₀ left₀ hand counts left = left
 
 loop-holds : tie.Need-loop-init invariant-loop decreases-loop
 loop-holds c = search rules
 
-sub-found-by : tie.Need-overflow-sub-found-by invariant-loop decreases-loop
-sub-found-by c = search rules
+sub-row-of : tie.Need-overflow-sub-row-of invariant-loop decreases-loop
+sub-row-of c = search rules
 
-part-found-by-start : tie.Need-slice-bounds-found-by-start invariant-loop decreases-loop
-part-found-by-start c = search rules
+part-row-of-start : tie.Need-slice-bounds-row-of-start invariant-loop decreases-loop
+part-row-of-start c = search rules
 
-part-found-by-end : tie.Need-slice-bounds-found-by-end invariant-loop decreases-loop
-part-found-by-end c = search rules
+part-row-of-end : tie.Need-slice-bounds-row-of-end invariant-loop decreases-loop
+part-row-of-end c = search rules
 
-found-by-requires : tie.Need-found-by-requires invariant-loop decreases-loop
-found-by-requires c κs = search rules
+row-of-requires : tie.Need-row-of-requires invariant-loop decreases-loop
+row-of-requires c κs = search rules
 
-added-requires : tie.Need-added-requires invariant-loop decreases-loop
-added-requires c κs = search rules
-
-cards-in-requires : tie.Need-cards-in-requires invariant-loop decreases-loop
-cards-in-requires c κs = search rules
-
-added-requires-2 : tie.Need-added-requires-2 invariant-loop decreases-loop
-added-requires-2 c κs = search rules
+counted-requires : tie.Need-counted-requires invariant-loop decreases-loop
+counted-requires c κs = search rules
 
 sub-next-hand : tie.Need-overflow-sub-next-hand invariant-loop decreases-loop
 sub-next-hand c = search rules
@@ -53,15 +47,15 @@ returns c = search rules
 pub tally-spec : {M : Type 1} → statement M
 tally-spec =
     tie.close
-    (tie.spec invariant-loop decreases-loop
+    (tie.spec
+    invariant-loop
+    decreases-loop
     loop-holds
-    sub-found-by
-    part-found-by-start
-    part-found-by-end
-    found-by-requires
-    added-requires
-    cards-in-requires
-    added-requires-2
+    sub-row-of
+    part-row-of-start
+    part-row-of-end
+    row-of-requires
+    counted-requires
     sub-next-hand
     next-hand-requires
     sub-left

@@ -1,20 +1,19 @@
 use Prim.Native.Nat.{◌≤◌, ◌-◌}
-use lib.ListN.{length}
 use borrow.Author.Rules.{rules}
 use Rattle.lists.proofs.changed_bytes.Statement.{statement}
 use Rattle.lists.proofs.changed_bytes.Tie as tie
 
 abbrev invariant-loop : tie.invariant-loop
-invariant-loop room changed₀ i₀ changed i = (i ≤ length room) × (changed ≤ i)
+invariant-loop room changed₀ i₀ changed i = (i ≤ 209) × (changed ≤ i)
 
 abbrev decreases-loop : tie.decreases-loop
-decreases-loop room changed₀ i₀ changed i = length room - i
+decreases-loop room changed₀ i₀ changed i = 209 - i
 
 loop-holds : tie.Need-loop-init invariant-loop decreases-loop
 loop-holds c = search rules
 
-shared-slice-read-unlike-byte : tie.Need-shared-slice-read-unlike-byte invariant-loop decreases-loop
-shared-slice-read-unlike-byte c = search rules
+array-read-unlike-byte : tie.Need-array-read-unlike-byte invariant-loop decreases-loop
+array-read-unlike-byte c = search rules
 
 unlike-byte-requires : tie.Need-unlike-byte-requires invariant-loop decreases-loop
 unlike-byte-requires c κs = search rules
@@ -39,7 +38,7 @@ changed-bytes-spec =
     tie.close
     (tie.spec invariant-loop decreases-loop
     loop-holds
-    shared-slice-read-unlike-byte
+    array-read-unlike-byte
     unlike-byte-requires
     add-changed
     add-i

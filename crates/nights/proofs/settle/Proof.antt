@@ -2,6 +2,7 @@ use mathlib.Core.Path.{sym}
 use lib.ListN.{replicate}
 use lib.Seq.{length-take-le}
 use borrow.Author.Rules.{rules}
+use borrow.Author.Rules.{rules}
 use Rattle.nights.proofs.settle.Statement.{statement}
 use Rattle.nights.proofs.settle.Tie as tie
 
@@ -11,17 +12,11 @@ array-borrow-prefix-room c = search rules
 slice-aggregate-lent : tie.Need-slice-aggregate-lent
 slice-aggregate-lent c = sym (length-take-le _ (replicate 4096 18446744073709551615) c.before.before.requires.0)
 
-array-borrow-prefix-lights : tie.Need-array-borrow-prefix-lights
-array-borrow-prefix-lights c = search rules
-
-slice-aggregate-lit : tie.Need-slice-aggregate-lit
-slice-aggregate-lit c = sym (length-take-le _ (replicate 4096 255) c.before.before.before.requires.1.0)
-
 array-borrow-prefix-told : tie.Need-array-borrow-prefix-told
 array-borrow-prefix-told c = search rules
 
 slice-aggregate-said : tie.Need-slice-aggregate-said
-slice-aggregate-said c = sym (length-take-le _ (replicate 256 18446744073709551615) c.before.before.before.before.requires.1.1)
+slice-aggregate-said c = sym (length-take-le _ (replicate 256 18446744073709551615) c.before.before.before.requires.1)
 
 ripplehatch-settle-shift-requires : tie.Need-ripplehatch-settle-shift-requires
 ripplehatch-settle-shift-requires c κs = search rules
@@ -38,9 +33,6 @@ returns c = search rules
 is-kept-requires : tie.Need-is-kept-requires
 is-kept-requires c κs = search rules
 
-are-kept-requires : tie.Need-are-kept-requires
-are-kept-requires c κs = search rules
-
 is-kept-requires-2 : tie.Need-is-kept-requires-2
 is-kept-requires-2 c κs = search rules
 
@@ -56,8 +48,6 @@ settle-spec =
     (tie.spec
     array-borrow-prefix-room
     slice-aggregate-lent
-    array-borrow-prefix-lights
-    slice-aggregate-lit
     array-borrow-prefix-told
     slice-aggregate-said
     ripplehatch-settle-shift-requires
@@ -65,7 +55,6 @@ settle-spec =
     write-settled-requires
     returns
     is-kept-requires
-    are-kept-requires
     is-kept-requires-2
     write-refused-requires
     returns-2)

@@ -6,10 +6,10 @@ use Rattle.nights.proofs.write_rounds.Statement.{statement}
 use Rattle.nights.proofs.write_rounds.Tie as tie
 
 abbrev invariant-loop : tie.invariant-loop
-invariant-loop amounts marks answers paid₀ lit₀ told₀ paid lit told = Unit {0}
+invariant-loop amounts answers paid₀ told₀ paid told = Unit {0}
 
 abbrev decreases-loop : tie.decreases-loop
-decreases-loop amounts marks answers paid₀ lit₀ told₀ paid lit told = length paid
+decreases-loop amounts answers paid₀ told₀ paid told = length paid
 
 loop-holds : tie.Need-loop-init invariant-loop decreases-loop
 loop-holds c = tt
@@ -17,23 +17,17 @@ loop-holds c = tt
 returns : tie.Need-returns invariant-loop decreases-loop
 returns c = tt
 
-returns-2 : tie.Need-returns-2 invariant-loop decreases-loop
-returns-2 c = tt
-
 slice-aggregate-write-round : tie.Need-slice-aggregate-write-round invariant-loop decreases-loop
-slice-aggregate-write-round c = let t = c.before.before.before.loop-test.true in simp length-take (omega arith)
+slice-aggregate-write-round c = let t = c.before.before.loop-test.true in simp length-take (omega arith)
 
 slice-aggregate-write-round-2 : tie.Need-slice-aggregate-write-round-2 invariant-loop decreases-loop
-slice-aggregate-write-round-2 c = let t = c.before.before.before.if1.false in simp length-take (omega arith)
-
-slice-aggregate-write-round-3 : tie.Need-slice-aggregate-write-round-3 invariant-loop decreases-loop
-slice-aggregate-write-round-3 c = let t = c.before.before.before.if2.false in simp length-take (omega arith)
+slice-aggregate-write-round-2 c = let t = c.before.before.if1.false in simp length-take (omega arith)
 
 write-round-requires : tie.Need-write-round-requires invariant-loop decreases-loop
 write-round-requires c κs = search rules
 
-returns-3 : tie.Need-returns-3 invariant-loop decreases-loop
-returns-3 c = tt
+returns-2 : tie.Need-returns-2 invariant-loop decreases-loop
+returns-2 c = tt
 
 sub-paid : tie.Need-overflow-sub-paid invariant-loop decreases-loop
 sub-paid c = search rules
@@ -43,15 +37,6 @@ part-paid-start c = search rules
 
 part-paid-end : tie.Need-slice-bounds-paid-end invariant-loop decreases-loop
 part-paid-end c = search rules
-
-sub-lit : tie.Need-overflow-sub-lit invariant-loop decreases-loop
-sub-lit c = search rules
-
-part-lit-start : tie.Need-slice-bounds-lit-start invariant-loop decreases-loop
-part-lit-start c = search rules
-
-part-lit-end : tie.Need-slice-bounds-lit-end invariant-loop decreases-loop
-part-lit-end c = search rules
 
 sub_told : tie.Need-overflow-sub-told invariant-loop decreases-loop
 sub_told c = search rules
@@ -64,36 +49,33 @@ part-told-end c = search rules
 
 loop-less : tie.Need-loop-smaller invariant-loop decreases-loop
 loop-less c =
-    let t = c.before.before.before.before.before.before.before.before.before.before.loop-test.true in
+    let t = c.before.before.before.before.before.before.before.loop-test.true in
     simp (rest_of, length-drop) (omega arith)
 
 loop-again : tie.Need-loop-preserved invariant-loop decreases-loop
 loop-again c = tt
 
-returns-4 : tie.Need-returns-4 invariant-loop decreases-loop
-returns-4 c = tt
+returns-3 : tie.Need-returns-3 invariant-loop decreases-loop
+returns-3 c = tt
 
 pub write-rounds-spec : {M : Type 1} → statement M
 write-rounds-spec =
     tie.close
-    (tie.spec invariant-loop decreases-loop
+    (tie.spec
+    invariant-loop
+    decreases-loop
     loop-holds
     returns
-    returns-2
     slice-aggregate-write-round
     slice-aggregate-write-round-2
-    slice-aggregate-write-round-3
     write-round-requires
-    returns-3
+    returns-2
     sub-paid
     part-paid-start
     part-paid-end
-    sub-lit
-    part-lit-start
-    part-lit-end
     sub_told
     part-told-start
     part-told-end
     loop-less
     loop-again
-    returns-4)
+    returns-3)

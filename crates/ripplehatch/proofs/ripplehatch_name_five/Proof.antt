@@ -9,17 +9,12 @@ name-five-requires c κs = search rules
 name-told-requires : tie.Need-name-told-requires
 name-told-requires c κs = search rules
 
-lit-told-requires : tie.Need-lit-told-requires
-lit-told-requires c κs = search rules
-
 hand-number-requires : tie.Need-hand-number-requires
 hand-number-requires c κs = search rules
 
 returns : tie.Need-returns
-returns c =
-    let e = c.before.before.before.before.before.name-five.ensures.0 in
-    (simp (c.hand-number.ensures, e) refl, (simp (c.before.before.before.name-told.ensures, e) refl, simp (c.before.lit-told.ensures, e) refl))
+returns c = let e = c.before.before.before.name-five.ensures.0 in (simp (c.hand-number.ensures, e) refl, simp (c.before.name-told.ensures, e) refl)
 
 pub ripplehatch-name-five-spec : {M : Type 1} → statement M
 ripplehatch-name-five-spec =
-    tie.close (tie.spec name-five-requires name-told-requires lit-told-requires hand-number-requires returns)
+    tie.close (tie.spec name-five-requires name-told-requires hand-number-requires returns)

@@ -9,17 +9,12 @@ name-lo-requires c κs = search rules
 lo-told-requires : tie.Need-lo-told-requires
 lo-told-requires c κs = search rules
 
-lo-lit-requires : tie.Need-lo-lit-requires
-lo-lit-requires c κs = search rules
-
 lo-number-requires : tie.Need-lo-number-requires
 lo-number-requires c κs = search rules
 
 returns : tie.Need-returns
-returns c =
-    let e = c.before.before.before.before.before.name-lo.ensures.0 in
-    (simp (c.lo_number_lem.ensures, e) refl, (simp (c.before.before.before.lo-told.ensures, e) refl, simp (c.before.lo-lit.ensures, e) refl))
+returns c = let e = c.before.before.before.name-lo.ensures.0 in (simp (c.lo_number_lem.ensures, e) refl, simp (c.before.lo-told.ensures, e) refl)
 
 pub ripplehatch-name-lo-spec : {M : Type 1} → statement M
 ripplehatch-name-lo-spec =
-    tie.close (tie.spec name-lo-requires lo-told-requires lo-lit-requires lo-number-requires returns)
+    tie.close (tie.spec name-lo-requires lo-told-requires lo-number-requires returns)

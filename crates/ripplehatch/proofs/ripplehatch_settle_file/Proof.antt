@@ -21,14 +21,8 @@ file-number-requires c κs = search rules
 same_length : tie.Need-same-length
 same_length c = search rules
 
-same-length-2 : tie.Need-same-length-2
-same-length-2 c = search rules
-
 returns : tie.Need-returns
-returns c =
-    let e = c.before.before.before.before.before.before.before.before.before.before.before.settle-file.ensures in
-    let lists = e.1.1.1.1 in
-    (simp (c.file_number_lem.ensures, e.0) refl, (lists.0, (lists.1, (simp (c.before.before.before.before.before.full-told.ensures, e.0) refl, (simp (c.before.before.before.paid-told.ensures, e.0) refl, simp (c.before.place-told.ensures, e.0) refl)))))
+returns c = let e = c.before.before.before.before.before.before.before.before.before.settle-file.ensures in (simp (c.file_number_lem.ensures, e.0) refl, (e.1.1.1.1, (simp (c.before.before.before.before.before.full-told.ensures, e.0) refl, (simp (c.before.before.before.paid-told.ensures, e.0) refl, simp (c.before.place-told.ensures, e.0) refl))))
 
 pub ripplehatch-settle-file-spec : {M : Type 1} → statement M
 ripplehatch-settle-file-spec =
@@ -40,5 +34,4 @@ ripplehatch-settle-file-spec =
     place-told-requires
     file-number-requires
     same_length
-    same-length-2
     returns)

@@ -8,17 +8,14 @@ read-file-requires : tie.Need-read-file-requires
 read-file-requires c κs = search rules
 
 settle-reading-requires : tie.Need-settle-reading-requires
-settle-reading-requires c κs = rw c.before.before.read-file.ensures (read_held _)
+settle-reading-requires c κs = rw c.before.read-file.ensures (read_held _)
 
 same_length : tie.Need-same-length
 same_length c = search rules
 
-same-length-2 : tie.Need-same-length-2
-same-length-2 c = search rules
-
 returns : tie.Need-returns
-returns c = file_promised _ _ _ _ _ _ _ _ (read_number _) (read_count _) (rw c.before.before.before.before.before.before.before.read-file.ensures at c.before.before.before.before.settle-reading.ensures)
+returns c = file_promised _ _ _ _ _ (read_number _) (read_count _) (rw c.before.before.before.before.read-file.ensures at c.before.before.settle-reading.ensures)
 
 pub settle-file-spec : {M : Type 1} → statement M
 settle-file-spec =
-    tie.close (tie.spec read-file-requires settle-reading-requires same_length same-length-2 returns)
+    tie.close (tie.spec read-file-requires settle-reading-requires same_length returns)

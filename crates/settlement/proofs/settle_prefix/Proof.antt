@@ -8,17 +8,14 @@ read-prefix-requires : tie.Need-read-prefix-requires
 read-prefix-requires c κs = search rules
 
 settle-reading-requires : tie.Need-settle-reading-requires
-settle-reading-requires c κs = rw c.before.before.read-prefix.ensures (prefix_held _ _)
+settle-reading-requires c κs = rw c.before.read-prefix.ensures (prefix_held _ _)
 
 same_length : tie.Need-same-length
 same_length c = search rules
 
-same-length-2 : tie.Need-same-length-2
-same-length-2 c = search rules
-
 returns : tie.Need-returns
-returns c = file_promised _ _ _ _ _ _ _ _ (prefix_number _ _) (prefix_count _ _) (rw c.before.before.before.before.before.before.before.read-prefix.ensures at c.before.before.before.before.settle-reading.ensures)
+returns c = file_promised _ _ _ _ _ (prefix_number _ _) (prefix_count _ _) (rw c.before.before.before.before.read-prefix.ensures at c.before.before.settle-reading.ensures)
 
 pub settle-prefix-spec : {M : Type 1} → statement M
 settle-prefix-spec =
-    tie.close (tie.spec read-prefix-requires settle-reading-requires same_length same-length-2 returns)
+    tie.close (tie.spec read-prefix-requires settle-reading-requires same_length returns)

@@ -21,12 +21,6 @@ too-many-requires-2 c κs = search rules
 returns-2 : tie.Need-returns-2
 returns-2 c = search rules
 
-too-many-requires-3 : tie.Need-too-many-requires-3
-too-many-requires-3 c κs = search rules
-
-returns-3 : tie.Need-returns-3
-returns-3 c = search rules
-
 mul-amounts : tie.Need-overflow-mul-amounts
 mul-amounts c = search rules
 
@@ -35,19 +29,8 @@ slice-relend-prefix-amounts c = search rules
 
 slice-aggregate-amounts : tie.Need-slice-aggregate-amounts
 slice-aggregate-amounts c =
-    let t = c.before.before.before.if1.false in
-    sym (length-take-le (35 * c.before.before.before.before.count-rounds.result) c.before.before.before.before.before.before.before.before.before.args.room.now (omega arith))
-
-mul-marks : tie.Need-overflow-mul-marks
-mul-marks c = search rules
-
-slice-relend-prefix-marks : tie.Need-slice-relend-prefix-marks
-slice-relend-prefix-marks c = search rules
-
-slice-aggregate-marks : tie.Need-slice-aggregate-marks
-slice-aggregate-marks c =
-    let t = c.before.before.before.if2.false in
-    sym (length-take-le (35 * c.before.before.before.before.before.count-rounds.result) c.before.before.before.before.before.before.before.before.before.before.args.lit.now (omega arith))
+    let t = c.before.before.if1.false in
+    sym (length-take-le (35 * c.before.before.before.count-rounds.result) c.before.before.before.before.before.before.before.args.room.now (omega arith))
 
 mul-answers : tie.Need-overflow-mul-answers
 mul-answers c = search rules
@@ -57,8 +40,8 @@ slice-relend-prefix-answers c = search rules
 
 slice-aggregate-answers : tie.Need-slice-aggregate-answers
 slice-aggregate-answers c =
-    let t = c.before.before.before.if3.false in
-    sym (length-take-le (2 * c.before.before.before.before.before.before.count-rounds.result) c.before.before.before.before.before.before.before.before.before.before.before.args.told.now (omega arith))
+    let t = c.before.before.if2.false in
+    sym (length-take-le (2 * c.before.before.before.before.count-rounds.result) c.before.before.before.before.before.before.before.before.args.told.now (omega arith))
 
 settle-shift-requires : tie.Need-settle-shift-requires
 settle-shift-requires c κs = search rules
@@ -72,9 +55,6 @@ print-rounds-requires c κs = search rules
 enum-known-number : tie.Need-enum-known-number
 enum-known-number c = search rules
 
-slice-aggregate-print-refused : tie.Need-slice-aggregate-print-refused
-slice-aggregate-print-refused c = search rules
-
 print-refused-requires : tie.Need-print-refused-requires
 print-refused-requires c κs = search rules
 
@@ -84,23 +64,17 @@ same_length c = search rules
 same-length-2 : tie.Need-same-length-2
 same-length-2 c = search rules
 
+returns-3 : tie.Need-returns-3
+returns-3 c = search rules
+
 same-length-3 : tie.Need-same-length-3
 same-length-3 c = search rules
-
-returns-4 : tie.Need-returns-4
-returns-4 c = search rules
 
 same-length-4 : tie.Need-same-length-4
 same-length-4 c = search rules
 
-same-length-5 : tie.Need-same-length-5
-same-length-5 c = search rules
-
-same-length-6 : tie.Need-same-length-6
-same-length-6 c = search rules
-
-returns-5 : tie.Need-returns-5
-returns-5 c = search rules
+returns-4 : tie.Need-returns-4
+returns-4 c = search rules
 
 pub settled-spec : {M : Type 1} → statement M
 settled-spec =
@@ -111,14 +85,9 @@ settled-spec =
     returns
     too-many-requires-2
     returns-2
-    too-many-requires-3
-    returns-3
     mul-amounts
     slice-relend-prefix-amounts
     slice-aggregate-amounts
-    mul-marks
-    slice-relend-prefix-marks
-    slice-aggregate-marks
     mul-answers
     slice-relend-prefix-answers
     slice-aggregate-answers
@@ -126,13 +95,10 @@ settled-spec =
     enum-known-rounds
     print-rounds-requires
     enum-known-number
-    slice-aggregate-print-refused
     print-refused-requires
     same_length
     same-length-2
+    returns-3
     same-length-3
-    returns-4
     same-length-4
-    same-length-5
-    same-length-6
-    returns-5)
+    returns-4)

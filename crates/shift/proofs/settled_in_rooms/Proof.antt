@@ -9,10 +9,7 @@ slice-aggregate-settled : tie.Need-slice-aggregate-settled
 slice-aggregate-settled c = sym (length-replicate {A = ℕ} 143360 0)
 
 slice-aggregate-settled-2 : tie.Need-slice-aggregate-settled-2
-slice-aggregate-settled-2 c = sym (length-replicate {A = ℕ} 143360 0)
-
-slice-aggregate-settled-3 : tie.Need-slice-aggregate-settled-3
-slice-aggregate-settled-3 c = sym (length-replicate {A = ℕ} 8192 0)
+slice-aggregate-settled-2 c = sym (length-replicate {A = ℕ} 8192 0)
 
 settled-requires : tie.Need-settled-requires
 settled-requires c κs = tt
@@ -21,11 +18,4 @@ returns : tie.Need-returns
 returns c = tt
 
 pub settled-in-rooms-spec : {M : Type 1} → statement M
-settled-in-rooms-spec =
-    tie.close
-    (tie.spec
-    slice-aggregate-settled
-    slice-aggregate-settled-2
-    slice-aggregate-settled-3
-    settled-requires
-    returns)
+settled-in-rooms-spec = tie.close (tie.spec slice-aggregate-settled slice-aggregate-settled-2 settled-requires returns)

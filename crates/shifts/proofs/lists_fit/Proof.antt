@@ -9,11 +9,8 @@ fits-requires c κs = search rules
 fits-requires-2 : tie.Need-fits-requires-2
 fits-requires-2 c κs = search rules
 
-fits-requires-3 : tie.Need-fits-requires-3
-fits-requires-3 c κs = search rules
-
 returns : tie.Need-returns
-returns c = simp (c.before.before.fits2.ensures, c.before.fits3.ensures, c.fits4.ensures) refl
+returns c = simp (c.before.fits2.ensures, c.fits3.ensures) refl
 
 pub lists-fit-spec : {M : Type 1} → statement M
-lists-fit-spec = tie.close (tie.spec fits-requires fits-requires-2 fits-requires-3 returns)
+lists-fit-spec = tie.close (tie.spec fits-requires fits-requires-2 returns)

@@ -7,9 +7,6 @@ use Rattle.shifts.proofs.settle_one.Tie as tie
 clear-requires : tie.Need-clear-requires
 clear-requires c κs = search rules
 
-clear-marks-requires : tie.Need-clear-marks-requires
-clear-marks-requires c κs = search rules
-
 settle-file-requires : tie.Need-settle-file-requires
 settle-file-requires c κs = search rules
 
@@ -31,23 +28,17 @@ same_length c = search rules
 same-length-2 : tie.Need-same-length-2
 same-length-2 c = search rules
 
-same-length-3 : tie.Need-same-length-3
-same-length-3 c = search rules
-
 returns : tie.Need-returns
 returns c =
-    let a = c.before.before.before.before.before.before.before.before.before.before.before.before.before.before.before.before.before.before.before.before.before.before.before.before.before.args in
-    let p = c.before.before.before.before.before.before.before.before.before.before.before.before.before.before.before.before.before.before.before.before.before.before.before.before.before.requires in
-    let e = c.before.before.before.before.before.before.before.before.before.before.settle-file.ensures in
-    let k = one_settled _ a.amounts.now a.marks.now _ _ p.0 p.1.0 c.before.before.before.before.before.before.before.before.before.before.before.before.before.before.before.before.before.before.before.clear.ensures c.before.before.before.before.before.before.before.before.before.before.before.before.before.before.before.clear-marks.ensures _ _ _ e.0 e.1.1.1.1.0 e.1.1.1.1.1 in
-    (k.0, (k.1.0, c.before.before.tell.ensures ∙ rw (c.before.before.before.before.before.file_number_lem.ensures, c.before.before.before.before.file_place_lem.ensures) k.1.1))
+    let s = c.before.before.before.before.before.before.before.before.settle-file.ensures in
+    let k = one_settled _ c.before.before.before.before.before.before.before.before.before.before.before.before.before.before.before.before.before.args.amounts.now _ _ _ c.before.before.before.before.before.before.before.before.before.before.before.before.before.before.before.before.before.requires.0 c.before.before.before.before.before.before.before.before.before.before.before.before.clear.ensures s.0 s.1.1.1.1 in
+    (k.0, c.before.before.tell.ensures ∙ rw (c.before.before.before.before.before.file_number_lem.ensures, c.before.before.before.before.file_place_lem.ensures) k.1)
 
 pub settle-one-spec : {M : Type 1} → statement M
 settle-one-spec =
     tie.close
     (tie.spec
     clear-requires
-    clear-marks-requires
     settle-file-requires
     file-number-requires
     cast-tell
@@ -55,5 +46,4 @@ settle-one-spec =
     tell-requires
     same_length
     same-length-2
-    same-length-3
     returns)

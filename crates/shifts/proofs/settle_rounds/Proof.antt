@@ -8,16 +8,16 @@ use Rattle.shifts.proofs.settle_rounds.Statement.{statement}
 use Rattle.shifts.proofs.settle_rounds.Tie as tie
 
 abbrev invariant-loop : tie.invariant-loop
-invariant-loop file amounts₀ marks₀ answers₀ start₀ k₀ amounts marks answers start k = Settling file amounts marks answers start k
+invariant-loop file amounts₀ answers₀ start₀ k₀ amounts answers start k = Settling file amounts answers start k
 
 abbrev decreases-loop : tie.decreases-loop
-decreases-loop file amounts₀ marks₀ answers₀ start₀ k₀ amounts marks answers start k = length file - start
+decreases-loop file amounts₀ answers₀ start₀ k₀ amounts answers start k = length file - start
 
 loop-holds : tie.Need-loop-init invariant-loop decreases-loop
 loop-holds c =
-    let a = c.before.before.before.before.args in
-    let p = c.before.before.before.before.requires in
-    settling_none _ a.amounts.now a.marks.now a.answers.now p.0 p.1.0 p.1.1
+    let a = c.before.before.before.args in
+    let p = c.before.before.before.requires in
+    settling_none _ a.amounts.now a.answers.now p.0 p.1
 
 sub-loop : tie.Need-overflow-sub-loop invariant-loop decreases-loop
 sub-loop c = c.loop.invariant.0
@@ -36,28 +36,28 @@ first-round-requires c κs = search rules
 
 add-end : tie.Need-overflow-add-end invariant-loop decreases-loop
 add-end c =
-    let r = settling_next _ _ _ _ _ _ c.before.before.before.loop.invariant _ c.first_round.ensures c.before.before.loop-test.true in
+    let r = settling_next _ _ _ _ _ c.before.before.before.loop.invariant _ c.first_round.ensures c.before.before.loop-test.true in
     omega (arith, r.1)
 
 mul_at : tie.Need-overflow-mul-at invariant-loop decreases-loop
 mul_at c =
-    let r = settling_next _ _ _ _ _ _ c.before.before.before.loop.invariant _ c.first_round.ensures c.before.before.loop-test.true in
+    let r = settling_next _ _ _ _ _ c.before.before.before.loop.invariant _ c.first_round.ensures c.before.before.loop-test.true in
     omega (arith, r.2)
 
 add-to : tie.Need-overflow-add-to invariant-loop decreases-loop
 add-to c =
-    let r = settling_next _ _ _ _ _ _ c.before.before.before.loop.invariant _ c.first_round.ensures c.before.before.loop-test.true in
+    let r = settling_next _ _ _ _ _ c.before.before.before.loop.invariant _ c.first_round.ensures c.before.before.loop-test.true in
     omega (arith, r.2)
 
 mul-told : tie.Need-overflow-mul-told invariant-loop decreases-loop
 mul-told c =
-    let r = settling_next _ _ _ _ _ _ c.before.before.before.loop.invariant _ c.first_round.ensures c.before.before.loop-test.true in
-    omega (arith, r.4)
+    let r = settling_next _ _ _ _ _ c.before.before.before.loop.invariant _ c.first_round.ensures c.before.before.loop-test.true in
+    omega (arith, r.3)
 
 add-said : tie.Need-overflow-add-said invariant-loop decreases-loop
 add-said c =
-    let r = settling_next _ _ _ _ _ _ c.before.before.before.loop.invariant _ c.first_round.ensures c.before.before.loop-test.true in
-    omega (arith, r.4)
+    let r = settling_next _ _ _ _ _ c.before.before.before.loop.invariant _ c.first_round.ensures c.before.before.loop-test.true in
+    omega (arith, r.3)
 
 sub-settle-one : tie.Need-overflow-sub-settle-one invariant-loop decreases-loop
 sub-settle-one c = search rules
@@ -66,7 +66,7 @@ part-settle-one-start : tie.Need-slice-bounds-settle-one-start invariant-loop de
 part-settle-one-start c = search rules
 
 part-settle-one-end : tie.Need-slice-bounds-settle-one-end invariant-loop decreases-loop
-part-settle-one-end c = (settling_next _ _ _ _ _ _ c.before.before.before.loop.invariant _ c.first_round.ensures c.before.before.loop-test.true).1
+part-settle-one-end c = (settling_next _ _ _ _ _ c.before.before.before.loop.invariant _ c.first_round.ensures c.before.before.loop-test.true).1
 
 mul-settle-one : tie.Need-overflow-mul-settle-one invariant-loop decreases-loop
 mul-settle-one c = search rules
@@ -78,7 +78,10 @@ part-settle-one-start-2 : tie.Need-slice-bounds-settle-one-start-2 invariant-loo
 part-settle-one-start-2 c = search rules
 
 part-settle-one-end-2 : tie.Need-slice-bounds-settle-one-end-2 invariant-loop decreases-loop
-part-settle-one-end-2 c = (settling_next _ _ _ _ _ _ c.before.before.before.before.loop.invariant _ c.before.first_round.ensures c.before.before.before.loop-test.true).2
+part-settle-one-end-2 c = (settling_next _ _ _ _ _ c.before.before.before.before.loop.invariant _ c.before.first_round.ensures c.before.before.before.loop-test.true).2
+
+mul-settle-one-2 : tie.Need-overflow-mul-settle-one-2 invariant-loop decreases-loop
+mul-settle-one-2 c = search rules
 
 sub-settle-one-3 : tie.Need-overflow-sub-settle-one-3 invariant-loop decreases-loop
 sub-settle-one-3 c = search rules
@@ -87,39 +90,27 @@ part-settle-one-start-3 : tie.Need-slice-bounds-settle-one-start-3 invariant-loo
 part-settle-one-start-3 c = search rules
 
 part-settle-one-end-3 : tie.Need-slice-bounds-settle-one-end-3 invariant-loop decreases-loop
-part-settle-one-end-3 c = (settling_next _ _ _ _ _ _ c.before.before.before.before.before.loop.invariant _ c.before.before.first_round.ensures c.before.before.before.before.loop-test.true).3
-
-mul-settle-one-2 : tie.Need-overflow-mul-settle-one-2 invariant-loop decreases-loop
-mul-settle-one-2 c = search rules
-
-sub-settle-one-4 : tie.Need-overflow-sub-settle-one-4 invariant-loop decreases-loop
-sub-settle-one-4 c = search rules
-
-part-settle-one-start-4 : tie.Need-slice-bounds-settle-one-start-4 invariant-loop decreases-loop
-part-settle-one-start-4 c = search rules
-
-part-settle-one-end-4 : tie.Need-slice-bounds-settle-one-end-4 invariant-loop decreases-loop
-part-settle-one-end-4 c = (settling_next _ _ _ _ _ _ c.before.before.before.before.before.before.loop.invariant _ c.before.before.before.first_round.ensures c.before.before.before.before.before.loop-test.true).4
+part-settle-one-end-3 c = (settling_next _ _ _ _ _ c.before.before.before.before.before.loop.invariant _ c.before.before.first_round.ensures c.before.before.before.before.loop-test.true).3
 
 settle-one-requires : tie.Need-settle-one-requires invariant-loop decreases-loop
 settle-one-requires c κs =
-    let r = settling_next _ _ _ _ _ _ c.before.before.before.before.before.before.before.loop.invariant _ c.before.before.before.before.first_round.ensures c.before.before.before.before.before.before.loop-test.true in
-    (part_long _ _ _ r.2, (part_long _ _ _ r.3, part_long _ _ _ r.4))
+    let r = settling_next _ _ _ _ _ c.before.before.before.before.before.before.loop.invariant _ c.before.before.before.first_round.ensures c.before.before.before.before.before.loop-test.true in
+    (part_long _ _ _ r.2, part_long _ _ _ r.3)
 
 add-k : tie.Need-overflow-add-k invariant-loop decreases-loop
 add-k c =
-    let r = settling_next _ _ _ _ _ _ c.before.before.before.before.before.before.before.before.before.before.before.before.before.before.loop.invariant _ c.before.before.before.before.before.before.before.before.before.before.before.first_round.ensures c.before.before.before.before.before.before.before.before.before.before.before.before.before.loop-test.true in
+    let r = settling_next _ _ _ _ _ c.before.before.before.before.before.before.before.before.before.before.before.loop.invariant _ c.before.before.before.before.before.before.before.before.first_round.ensures c.before.before.before.before.before.before.before.before.before.before.loop-test.true in
     omega (arith, r.2)
 
 loop-less : tie.Need-loop-smaller invariant-loop decreases-loop
 loop-less c =
-    let r = settling_next _ _ _ _ _ _ c.before.before.before.before.before.before.before.before.before.before.before.before.before.before.loop.invariant _ c.before.before.before.before.before.before.before.before.before.before.before.first_round.ensures c.before.before.before.before.before.before.before.before.before.before.before.before.before.loop-test.true in
+    let r = settling_next _ _ _ _ _ c.before.before.before.before.before.before.before.before.before.before.before.loop.invariant _ c.before.before.before.before.before.before.before.before.first_round.ensures c.before.before.before.before.before.before.before.before.before.before.loop-test.true in
     omega (arith, r.0, r.1)
 
 loop-again : tie.Need-loop-preserved invariant-loop decreases-loop
 loop-again c =
-    let s = c.before.before.before.before.before.before.settle-one.ensures in
-    settling_more _ _ _ _ _ _ c.before.before.before.before.before.before.before.before.before.before.before.before.before.before.loop.invariant _ _ _ _ (settling_next _ _ _ _ _ _ c.before.before.before.before.before.before.before.before.before.before.before.before.before.before.loop.invariant _ c.before.before.before.before.before.before.before.before.before.before.before.first_round.ensures c.before.before.before.before.before.before.before.before.before.before.before.before.before.loop-test.true) s.0 s.1.0 s.1.1
+    let s = c.before.before.before.before.settle-one.ensures in
+    settling_more _ _ _ _ _ c.before.before.before.before.before.before.before.before.before.before.before.loop.invariant _ _ _ (settling_next _ _ _ _ _ c.before.before.before.before.before.before.before.before.before.before.before.loop.invariant _ c.before.before.before.before.before.before.before.before.first_round.ensures c.before.before.before.before.before.before.before.before.before.before.loop-test.true) s.0 s.1
 
 same_length : tie.Need-same-length invariant-loop decreases-loop
 same_length c = search rules
@@ -127,11 +118,8 @@ same_length c = search rules
 same-length-2 : tie.Need-same-length-2 invariant-loop decreases-loop
 same-length-2 c = search rules
 
-same-length-3 : tie.Need-same-length-3 invariant-loop decreases-loop
-same-length-3 c = search rules
-
 returns : tie.Need-returns invariant-loop decreases-loop
-returns c = settling_all _ _ _ _ _ _ c.before.loop.invariant c.loop-test.false
+returns c = settling_all _ _ _ _ _ c.before.loop.invariant c.loop-test.false
 
 pub settle-rounds-spec : {M : Type 1} → statement M
 settle-rounds-spec =
@@ -157,18 +145,14 @@ settle-rounds-spec =
     sub-settle-one-2
     part-settle-one-start-2
     part-settle-one-end-2
+    mul-settle-one-2
     sub-settle-one-3
     part-settle-one-start-3
     part-settle-one-end-3
-    mul-settle-one-2
-    sub-settle-one-4
-    part-settle-one-start-4
-    part-settle-one-end-4
     settle-one-requires
     add-k
     loop-less
     loop-again
     same_length
     same-length-2
-    same-length-3
     returns)

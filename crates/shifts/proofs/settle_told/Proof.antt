@@ -21,14 +21,10 @@ same_length c = search rules
 same-length-2 : tie.Need-same-length-2
 same-length-2 c = search rules
 
-same-length-3 : tie.Need-same-length-3
-same-length-3 c = search rules
-
 returns : tie.Need-returns
 returns c =
-    let e = c.before.before.before.before.before.before.before.before.before.before.before.settle-shift.ensures in
-    let lists = e.1.1.1.1 in
-    (c.shift_number_lem.ensures ∙ e.1.0, (lists.0, (lists.1.0, (lists.1.1, (simp (c.before.before.before.rounds-told.ensures, e.0) refl, simp (c.before.place-told.ensures, e.0) refl)))))
+    let e = c.before.before.before.before.before.before.before.before.before.settle-shift.ensures in
+    (c.shift_number_lem.ensures ∙ e.1.0, (e.1.1.1.1.0, (e.1.1.1.1.1, (simp (c.before.before.before.rounds-told.ensures, e.0) refl, simp (c.before.place-told.ensures, e.0) refl))))
 
 pub settle-told-spec : {M : Type 1} → statement M
 settle-told-spec =
@@ -40,5 +36,4 @@ settle-told-spec =
     shift-number-requires
     same_length
     same-length-2
-    same-length-3
     returns)
