@@ -5,6 +5,9 @@
 // word; no hand is copied.
 //
 // proofs/Best.antt has the law that no five of the six have a higher name and some have this one, proofs/Orders.antt that the order of the cards plays no part.
+
+#![tactic(auto)]
+
 ghost use Rattle.std.specs.Prelude.{◌≡◌, [], ◌∷◌};
 ghost use Rattle.counting.specs.Choose.{unless_refused};
 ghost use Rattle.hands.specs.Hand.{hand_refusal};

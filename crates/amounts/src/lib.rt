@@ -3,6 +3,9 @@
 // A base win at odds above 50 goes into the pool: of such a seat `Base` has the full win, and the wager that comes back besides. Of any other
 // seat it has what the pay table hands back, and nothing where the seat has folded. Side wagers are settled whether the seat has folded or
 // not. Each function answers for any round and any place; a seat that doesn't play has no wager, and so nothing back.
+
+#![tactic(auto)]
+
 ghost use Rattle.std.specs.Prelude.{◌≡◌, ◌+◌, ◌*◌};
 ghost use Rattle.amounts.specs.Base.{base_wager, hand_of, base_at, base_of, bases_of};
 ghost use Rattle.amounts.specs.Sides.{board_pay_of, pocket_amount, lo_amount, six_amount};

@@ -1,6 +1,9 @@
 // A round changed by hand, one number at a time, as no record can: for tests of refusal 17.
 //
 // Whoever holds a round by value can make any other of it; what is refused is to go on with one that never happened.
+
+#![tactic(auto)]
+
 ghost use Rattle.std.specs.Prelude.{◌≡◌};
 ghost use Rattle.counting.specs.Choose.{if◌then◌else◌};
 ghost use Rattle.by_hand.specs.Changes.{wagers_with, with_number, with_wager, with_card, with_parts, with_raise, with_fold, changed};

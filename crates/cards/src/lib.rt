@@ -4,6 +4,9 @@
 // bytes. proofs/ has the laws: a deck with no repeat by places is one with no repeat by counts, the faults of a list are those of
 // its first n cards and those from there on, a whole deck holds each of the 52 cards exactly once, and the order of cards plays no
 // part in their faults.
+
+#![tactic(auto)]
+
 ghost use Rattle.std.specs.Prelude.{◌≡◌, drop};
 ghost use Rattle.counting.specs.Count.{every_of};
 ghost use Rattle.cards.specs.Card.{is_card, rank, suit};

@@ -2,3 +2,5 @@
 //
 // specs/Cases.antt has the table and says when a case is right: of the answers that the entries promise, not of what they are
 // made of. proofs/Right.antt shows that every case is.
+
+#![tactic(auto)]

@@ -8,6 +8,9 @@
 // The file stdout beside src/ has what this must print. It was worked out by combinatorics and not by this code:
 // docs/COUNTS.md has the working. Every function here is proved safe and ending; what the program prints is tested and
 // not proved.
+
+#![tactic(auto)]
+
 ghost use Rattle.std.specs.Prelude.{◌<◌, ◌≤◌};
 
 use names::{BoardAnswer, FiveAnswer, LoAnswer, LoName, PocketAnswer};

@@ -4,6 +4,9 @@
 // come is the round's to say. Seats are taken by their antes: a seat without one doesn't play. Each function answers for any antes, any play and
 // any bytes. `fits` is true of the plays that accepted records leave, and proofs/ shows it from both sides. The order of choices within a
 // street isn't held: a raise stands at street × 7 + place, a fold's street, counted from 1, at the seat's place.
+
+#![tactic(auto)]
+
 ghost use Rattle.std.specs.Prelude.{◌≡◌, ◌<◌};
 ghost use Rattle.choosing.specs.Streets.{raise_on, fold_of, still_in, has_to_choose, is_open, streets_over};
 ghost use Rattle.choosing.specs.Choice.{standing_refusal, choice_refusal, chosen, with_choice};

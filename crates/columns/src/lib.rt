@@ -2,6 +2,9 @@
 //
 // A column is four characters: a blank, and a number of up to three digits. Every function here answers for any bytes: what is no
 // digit counts as 0, and past its end a line reads as zeros, as a record does.
+
+#![tactic(auto)]
+
 ghost use Rattle.std.specs.Prelude.{ℕ, ◌<◌, ◌≡◌, get_or};
 ghost use Rattle.columns.specs.Columns.{digit_at, number_at, line_end};
 

@@ -4,6 +4,9 @@
 // that hold the same numbers in another order. proofs/ has their laws, once; the crates above cite the laws and not
 // the definitions' texts. The functions here read and write an array at any place: past its end a read gives 0 and a
 // write changes nothing, so that no caller owes a bound. above_of counts what is larger.
+
+#![tactic(auto)]
+
 ghost use Rattle.std.specs.Prelude.{◌≡◌, ◌≤◌, get_or, set};
 ghost use Rattle.counting.specs.Choose.{one};
 ghost use Rattle.counting.specs.Count.{above};

@@ -2,6 +2,9 @@
 //
 // Record 0 starts a round, and so does every later record of kind 1. A round is a part of the caller's own file, told by its length; nothing of it is copied. An odd
 // tail is in no round. specs/Rounds.antt says which rounds a file has.
+
+#![tactic(auto)]
+
 ghost use Rattle.std.specs.Prelude.{◌≡◌, length};
 ghost use Rattle.cutting.specs.Rounds.{first_round, round_count};
 

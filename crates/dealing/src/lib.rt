@@ -4,6 +4,9 @@
 // the round's to say. Each function answers for any deck and any bytes. `fits` is true of the decks that accepted records
 // leave, and proofs/ shows it from both sides. The search for a repeat is the labelled one of `cards`. A record has its thirteen
 // cards looked at, each against every place before it: over four parts at most 52 × 51 ÷ 2 comparisons, as many as `fits` makes.
+
+#![tactic(auto)]
+
 ghost use Rattle.std.specs.Prelude.{◌≡◌, ◌*◌, ◌≤◌, take};
 ghost use Rattle.std.proofs.lemmas.List.Edits.{sets};
 ghost use Rattle.cards.specs.Deck.{faulty_from};

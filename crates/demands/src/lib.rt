@@ -1,6 +1,9 @@
 // The three demands on the settler, as theorems over the definitions that its contracts cite: proofs/Demands.antt has them.
 //
 // The code here works out the floor of the third demand, as specs/Floor.antt defines it. It answers for any table and any win.
+
+#![tactic(auto)]
+
 ghost use Rattle.std.specs.Prelude.{min, ◌≡◌};
 ghost use Rattle.demands.specs.Floor.{other_win, floor_of};
 

@@ -2,6 +2,9 @@
 //
 // As those of `text`, every function writes from the place `at` on, as much as fits, leaves the rest of the room as it was, and answers the place
 // behind what it wrote. Each answers for any room, any place and any bytes.
+
+#![tactic(auto)]
+
 ghost use Rattle.std.specs.Prelude.{◌≡◌};
 ghost use Rattle.reading.specs.File.{file_records};
 ghost use Rattle.text.specs.Text.{behind, written};

@@ -16,6 +16,9 @@
 //     share 20, list 7 7 7
 //
 // stdout beside src/ is worked out from document 01. Every function here is proved safe and ending; what the program prints is tested and not proved.
+
+#![tactic(auto)]
+
 ghost use Rattle.std.specs.Prelude.{◌≤◌};
 
 use digits::put_digits;

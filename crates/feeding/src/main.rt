@@ -13,6 +13,9 @@
 //
 // The file stdin beside src/ has the cases, and stdout what this must print: worked out by hand from the rule sheet, not by this
 // code. Every function here is proved safe and ending; what the program prints is tested and not proved.
+
+#![tactic(auto)]
+
 use by_hand::changed;
 use columns::{line_end, number_at, numbers_of};
 use pipes::{Outcome, called, end, read_all, tell_unwritten, write_out};

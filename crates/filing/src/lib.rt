@@ -3,6 +3,9 @@
 // The held file is of accepted records, one after the other; the empty file is the fresh round. Taking a record reads the held file once and changes
 // nothing: the pad puts an accepted record behind the others itself, and the file is then again one of accepted records (proofs/Laws.antt). Records
 // stand in it as they came; writing it gives the same round's file in the writer's order, in as many bytes.
+
+#![tactic(auto)]
+
 ghost use Rattle.std.specs.Prelude.{◌≡◌, length};
 ghost use Rattle.round.specs.Feed.{number_of};
 ghost use Rattle.writing.specs.Write.{write_number};

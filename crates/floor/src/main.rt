@@ -14,6 +14,9 @@
 // The file stdin beside src/ has cases, and stdout what this must print: worked out from the words of the demand, not by this code. The floors
 // are `sure_of`'s, which is proved to be what the third demand promises. Every function here is proved safe and ending; what is read and printed is
 // tested and not proved.
+
+#![tactic(auto)]
+
 use columns::{digit_at, line_end};
 use demands::sure_of;
 use pipes::{Outcome, called, end, read_all, tell_unwritten, write_out};

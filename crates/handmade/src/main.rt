@@ -13,6 +13,9 @@
 //
 // The items in stdin beside src/ and the lines in stdout come from the settler in oracle/, which makes both again at every test: each byte of thirteen rounds is
 // changed to several others. Every function here is proved safe and ending; what the program prints is tested and not proved.
+
+#![tactic(auto)]
+
 ghost use Rattle.std.specs.Prelude.{◌≤◌};
 
 use choosing::Play;

@@ -3,6 +3,9 @@
 //
 // Each function answers for any bytes and any numbers, has no `requires`, and copies no hand: it counts in the slice that
 // it is lent. specs/Hand.antt has the definitions, one for each function.
+
+#![tactic(auto)]
+
 ghost use Rattle.std.specs.Prelude.{◌≡◌};
 ghost use Rattle.hands.specs.Hand.{of_rank, of_suit, kinds, flush, rank_on, run, straight, highest, hand_refusal};
 

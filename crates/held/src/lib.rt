@@ -3,6 +3,9 @@
 //
 // The test reads the round's own numbers once: at most 52 × 51 ÷ 2 comparisons of cards, and a few for each of the seven seats on each of the
 // three streets. It is proved true of exactly the led rounds (`led`), so the promises here speak of those and not of the test.
+
+#![tactic(auto)]
+
 ghost use Rattle.std.specs.Prelude.{◌≡◌};
 ghost use Rattle.round.specs.Feed.{number_of};
 ghost use Rattle.led.specs.Held.{opened, deck_after_seats};

@@ -3,6 +3,9 @@
 //
 // Seats are taken by their antes: a seat without one doesn't play and takes no cards. `offer` is the number of the All-Six pay table, 0 where it isn't
 // offered. Each function answers for any antes, any deck and any place. Where a card lies is said here and nowhere else.
+
+#![tactic(auto)]
+
 ghost use Rattle.std.specs.Prelude.{◌≡◌};
 ghost use Rattle.holding.specs.Deal.{playing_before, hole_at, community_at, hole, community, five, six_hand};
 

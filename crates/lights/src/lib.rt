@@ -4,6 +4,9 @@
 // count: 1, 2, 4, .. for the first, second, third card. ranks_of gives the ranks in a word (crate words), and sum5, sum3 and sum2 the number of a hand's cards that have one
 // of them; they answer for any bytes, of which none above 51 is lit, and copy no hand. That they are two calls keeps each small enough for a caller's own code.
 // specs/Lit.antt has the definitions.
+
+#![tactic(auto)]
+
 ghost use Rattle.std.specs.Prelude.{◌≡◌, Bool, ◌&&◌, [], ◌∷◌, ℕ, ◌*◌, ◌≤◌, ltb};
 ghost use Rattle.counting.specs.Choose.{one};
 ghost use Rattle.cards.specs.Card.{rank};

@@ -12,6 +12,9 @@
 //
 // stdout beside src/ is worked out from the documents' order: a file 1, 2, then record by record; a held round 17, 1, 16; writing 17, 16, 1. What the program
 // prints is tested and not proved.
+
+#![tactic(auto)]
+
 ghost use Rattle.std.specs.Prelude.{◌≤◌};
 
 use filing::rewrite_file;

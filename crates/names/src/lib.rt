@@ -9,6 +9,9 @@
 // longer than a word can count, and count in it rank by rank. All answer what the definition says.
 //
 // proofs/Orders.antt has the law that the order of the cards plays no part.
+
+#![tactic(auto)]
+
 ghost use Rattle.std.specs.Prelude.{◌≡◌, [], ◌∷◌, ℕ};
 ghost use Rattle.counting.specs.Choose.{if◌then◌else◌, unless_refused};
 ghost use Rattle.hands.specs.Hand.{of_rank, of_suit, flush, hand_refusal};

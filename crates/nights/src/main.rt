@@ -12,6 +12,9 @@
 //
 // The shifts in stdin beside src/ and the lines in stdout come from the settler in oracle/, which makes both again at every test. Every function here is proved safe and
 // ending; what the program prints is tested and not proved.
+
+#![tactic(auto)]
+
 ghost use Rattle.std.specs.Prelude.{◌≤◌, ◌≡◌, length};
 
 use pipes::{Outcome, called, end, print, read_into, tell, tell_unread};

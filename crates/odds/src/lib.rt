@@ -6,6 +6,9 @@
 //
 // proofs/Above.antt has the rule that only a royal flush and a straight flush are paid at odds above 50, shown once, over
 // the whole base table.
+
+#![tactic(auto)]
+
 ghost use Rattle.std.specs.Prelude.{◌≡◌, ◌&&◌, map, ◌+◌, ◌-◌, leb, ltb};
 ghost use Rattle.counting.specs.Choose.{if◌then◌else◌};
 ghost use Rattle.names.specs.Five.{five_place};

@@ -2,6 +2,9 @@
 //
 // A pay table says a win at some odds, a push or a loss; handed_back gives the cents of it, win_at the win that may go into the pool, and
 // is_above_fifty whether it does. No function has a `requires`.
+
+#![tactic(auto)]
+
 ghost use Rattle.std.specs.Prelude.{◌≡◌, ◌+◌, ◌*◌};
 ghost use Rattle.pays.specs.Amounts.{handed_back, win_at, above_fifty};
 

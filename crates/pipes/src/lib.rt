@@ -5,6 +5,9 @@
 //
 // A program of the kit has no exit status. Called with the one argument `--status`, it writes a digit and a newline to file descriptor 3 as it ends: 0
 // where it did its work, 1 where its answer is a refusal, 2 for a fault of the call, of reading or of writing.
+
+#![tactic(auto)]
+
 ghost use Rattle.std.specs.Prelude.{◌≤◌, length};
 ghost use Rattle.io.specs.Counts.{IsPrefixLen};
 

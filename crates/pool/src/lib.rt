@@ -3,6 +3,9 @@
 // share is the entry on lent lists, pool_of the same of seven wins by value. Each answers every input and has no `requires`.
 // specs/Pool.antt says what is answered and what the lent list then holds; specs/Shares.antt has the laws of a share, the only
 // things that callers cite. All wins, shares and maximums are whole dollars.
+
+#![tactic(auto)]
+
 ghost use Rattle.std.specs.Prelude.{◌≡◌, true, map, ◌≤◌, ◌<◌, length};
 ghost use Rattle.counting.specs.Choose.{one};
 ghost use Rattle.counting.specs.Count.{total};

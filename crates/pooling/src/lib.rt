@@ -6,3 +6,5 @@
 // one get. proofs/Folded.antt: a round in which both seats fold on street one, and what their side wagers hand back. proofs/Listed.antt: the pay
 // tables that a table record may name are those that are listed. proofs/Unpooled.antt: no All-Six win goes into the pool, whatever its odds; it is handed
 // back in full. proofs/Sound.antt: the six cards of an All-Six hand are never refused.
+
+#![tactic(auto)]

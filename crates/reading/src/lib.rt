@@ -2,6 +2,9 @@
 //
 // A file is a run of 16-byte records with no header. Reading goes over it once and holds one round. Of a longer file than is ever accepted the
 // first 34 records, and how many bytes come after them, are enough for the same answer.
+
+#![tactic(auto)]
+
 ghost use Rattle.std.specs.Prelude.{◌≡◌, ◌+◌, ◌*◌, ◌/◌, ◌%◌};
 ghost use Rattle.reading.specs.File.{file_records, read_records, read_file, read_prefix, refused_part};
 

@@ -2,6 +2,9 @@
 //
 // A record is any list of bytes: past its end it reads as zeros, so that no reader owes a length. A seat is its number;
 // its place in a list of seven is one less. A seat plays where it has an ante.
+
+#![tactic(auto)]
+
 ghost use Rattle.std.specs.Prelude.{◌≡◌};
 ghost use Rattle.records.specs.Bytes.{byte, word, zero_from, between};
 ghost use Rattle.records.specs.Seats.{place, any_plays};

@@ -2,6 +2,9 @@
 //
 // results_of answers for any round. Wins beyond the pool's limits, which no accepted records lead to, are refused by the pool and share
 // nothing. specs/Results.antt has the pool and the results list.
+
+#![tactic(auto)]
+
 ghost use Rattle.std.specs.Prelude.{◌≡◌, ◌<◌};
 ghost use Rattle.results.specs.Results.{maximum, base_amount, results, judged_of, amounts_of, results_of};
 

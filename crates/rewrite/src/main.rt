@@ -16,6 +16,9 @@
 //
 // The first 34 records are held and the bytes beyond are counted, as in `settle`. The file of the round has as many bytes as the file that led to it (`as_long`,
 // crates/again/proofs/Laws.antt), so it is written into a room of that length. What is read and written is tested, not proved.
+
+#![tactic(auto)]
+
 ghost use Rattle.io.specs.Counts.{IsPrefixLen};
 
 use pipes::{Outcome, called, end, print, read_first, tell_text};

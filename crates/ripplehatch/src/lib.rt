@@ -2,6 +2,9 @@
 //
 // ripplehatch.h declares them. Each answers a refusal's number, or 0, and tells the rest in what the caller lends; what is not told is left as it was,
 // so a refusal changes nothing that was lent but the place. None has a `requires`.
+
+#![tactic(auto)]
+
 ghost use Rattle.std.specs.Prelude.{◌≡◌, ◌*◌, length};
 ghost use Rattle.allsix.specs.Six.{answer_six, six_told};
 ghost use Rattle.cutting.specs.Rounds.{round_count};

@@ -3,6 +3,9 @@
 // A `Round` is 158 bytes of numbers: the table's 7, the wagers' 5 × 7 × 2, the deck's 52 and 1, the play's 21 and 7. Parts not yet
 // filled are zero. It is passed by value: taking a record copies it a few times, and does no work that grows with anything but the record.
 // The methods here answer for any round whatever; whether accepted records lead to it is for `held` to ask.
+
+#![tactic(auto)]
+
 ghost use Rattle.std.specs.Prelude.{◌≡◌};
 ghost use Rattle.round.specs.Order.{fresh_round, is_playing, is_finished, may_come};
 ghost use Rattle.round.specs.Feed.{kind_refusal, refusal, next, refused, accepted, feed, number_of};

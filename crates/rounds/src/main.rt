@@ -14,6 +14,9 @@
 //
 // The files in stdin beside src/ and the lines in stdout come from the settler in oracle/, which makes both again at every test. Every function
 // here is proved safe and ending; what the program prints is tested and not proved.
+
+#![tactic(auto)]
+
 ghost use Rattle.std.specs.Prelude.{◌*◌, ◌≤◌, ◌≡◌, length};
 
 use digits::{put_digits, put_records};

@@ -4,6 +4,9 @@
 // the wagers; whether such a record may come is the round's to say. Each function answers for any table, any wagers and any
 // bytes. `fits` and `fit` are true of the tables and wagers that accepted records leave, and proofs/ shows it from both
 // sides: an accepted record keeps them true, and a table or wagers of which they are true are led to by their own records.
+
+#![tactic(auto)]
+
 ghost use Rattle.std.specs.Prelude.{◌≡◌};
 ghost use Rattle.records.specs.Bytes.{word};
 ghost use Rattle.seating.specs.Table.{limits_fit, tables_fit, table_of, table_refusal, has_table, is_blank, table_fits};

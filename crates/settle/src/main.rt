@@ -15,6 +15,9 @@
 //
 // The first 34 records are held and the bytes beyond are counted, which is enough for the answer of the whole file
 // (`prefix_is_file`, crates/demands/proofs/Demands.antt). What is read and printed is tested, not proved.
+
+#![tactic(auto)]
+
 ghost use Rattle.std.specs.Prelude.{◌≤◌};
 ghost use Rattle.io.specs.Counts.{IsPrefixLen};
 

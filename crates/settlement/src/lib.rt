@@ -3,6 +3,9 @@
 // settle takes a round that a pad holds; settle_file and settle_prefix take a file of its records. Each answers every input and has no `requires`:
 // specs/Settle.antt says what is answered and what the lent list then holds. The results are worked out by value, without a heap, and
 // copied into the lent list once; a refusal is known before, and changes nothing there.
+
+#![tactic(auto)]
+
 ghost use Rattle.std.specs.Prelude.{◌≡◌, true, ◌+◌, ◌/◌, length};
 ghost use Rattle.counting.specs.Choose.{unless_refused};
 ghost use Rattle.led.specs.Held.{is_held};

@@ -16,6 +16,9 @@
 //
 // The amounts and the refusals are those of the lists that settle_shift fills; it tells no pool, so each round's comes from its own call. What is read and printed is
 // tested, not proved.
+
+#![tactic(auto)]
+
 use cutting::{count_rounds, first_round};
 use pipes::{Outcome, called, end, print, read_all, tell};
 use results::RESULTS;

@@ -3,6 +3,9 @@
 // One lent list takes the amounts of each round, the other its refusal's number and place within the round. A refused round's amounts are zeros, and it spoils no
 // other. The file is gone over twice from the front, once to count its rounds and once to settle them; nothing of it is held. A refusal is known before anything is
 // written. specs/Shift.antt says what is answered and what the lists then hold.
+
+#![tactic(auto)]
+
 ghost use Rattle.std.specs.Prelude.{◌≡◌, ◌&&◌, ◌∷◌, [], ◌<◌, ◌*◌, eqb, length, replicate};
 ghost use Rattle.counting.specs.Choose.{unless_refused};
 ghost use Rattle.cutting.specs.Rounds.{round_count};

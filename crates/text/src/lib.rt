@@ -2,6 +2,9 @@
 //
 // Every function writes from the place `at` on, as much as fits, leaves the rest of the room as it was, and answers the place behind what it
 // wrote. Each answers for any room and any place, and none reads or prints anything.
+
+#![tactic(auto)]
+
 ghost use Rattle.std.specs.Prelude.{◌≤◌, ◌<◌, ◌≡◌, ◌++◌, ◌∷◌, length, take, drop};
 ghost use Rattle.text.specs.Text.{behind, written, decimal, listed, line_of, hex_digit, hex_of};
 

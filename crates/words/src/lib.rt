@@ -3,6 +3,9 @@
 // Hexadecimal digit r of a hand's word is how often rank r occurs; a byte above 51 adds nothing, so a word is right for any bytes. No hand is copied, sorted or looked up in
 // a table: a word is a sum of powers of 16, and each question is one of all its digits at once. What is asked of bytes is answered for any; what is asked of a word, of every word
 // that some cards have, at most five, three or two of them as Says tells (specs/Word.antt).
+
+#![tactic(auto)]
+
 ghost use Rattle.std.specs.Prelude.{◌≡◌, [], ◌∷◌, max, eqb};
 ghost use Rattle.counting.specs.Choose.{one};
 ghost use Rattle.cards.specs.Card.{rank, six, jack, ace};

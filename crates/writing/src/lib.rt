@@ -3,6 +3,9 @@
 // The file is the round's own records, one after the other, as far as the round has come: finished or not, it reads back to the same round (crate
 // `again`). Each record is put into the lent room once, at its place, with no copy of the file; a refusal is known before, and changes nothing there.
 // specs/Write.antt says what is answered and what the room then holds.
+
+#![tactic(auto)]
+
 ghost use Rattle.std.specs.Prelude.{◌≡◌, true, ◌+◌, ◌≤◌, ◌<◌, length};
 ghost use Rattle.std.proofs.lemmas.List.Edits.{sets};
 ghost use Rattle.counting.specs.Count.{tally};
