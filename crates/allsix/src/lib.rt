@@ -15,7 +15,7 @@ ghost use Rattle.allsix.specs.Six.{higher, best_of_six, six_royal, name_six, ans
 
 use names::{FiveName, five_of_word, five_place};
 
-#[derive(Drop)]
+#[derive(Clone, Copy)]
 pub enum SixName {
     // Nine to ace of diamonds.
     RoyalOfDiamonds,
@@ -25,7 +25,7 @@ pub enum SixName {
     Five(FiveName),
 }
 
-#[derive(Drop)]
+#[derive(Clone, Copy)]
 pub enum SixAnswer {
     Name(SixName),
     Refused(u8),

@@ -17,14 +17,14 @@ use pays::{Pay, handed_back, is_above_fifty, win_at};
 use round::Round;
 
 // A seat's win in the pool, in dollars, and what its base wager hands back besides a share of the pool, in cents.
-#[derive(Drop)]
+#[derive(Clone, Copy)]
 pub struct Base {
     pub win: u64,
     pub kept: u64,
 }
 
 // The same of the seven seats.
-#[derive(Drop)]
+#[derive(Clone, Copy)]
 pub struct Bases {
     pub wins: [u64; 7],
     pub kept: [u64; 7],

@@ -15,7 +15,7 @@ ghost use Rattle.choosing.specs.Slots.{fold_fits, raise_fits, slot_at, street_fi
 use counting::{at7, at21, byte_at7};
 use records::{byte_at, is_between, is_zero_from, place_of};
 
-#[derive(Drop)]
+#[derive(Clone, Copy)]
 pub struct Play {
     pub raises: [u8; 21],
     pub folds: [u8; 7],

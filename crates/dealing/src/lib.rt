@@ -16,7 +16,7 @@ ghost use Rattle.dealing.specs.Part.{thirteen_of, dealt, with_part, part_refusal
 use cards::is_faulty_from;
 use records::{byte_at, is_zero_from};
 
-#[derive(Drop)]
+#[derive(Clone, Copy)]
 pub struct Deck {
     pub cards: [u8; 52],
     pub parts: u8,

@@ -26,7 +26,7 @@ use text::{put_bytes, put_line, up_to};
 const NAME: [u8; 7] = *b"feeding";
 
 // The round that is held after a line, and what comes behind the line where it is printed, which ends at `last`.
-#[derive(Drop)]
+#[derive(Clone, Copy)]
 struct AfterLine {
     round: Round,
     tail: [u8; 32],
@@ -34,7 +34,7 @@ struct AfterLine {
 }
 
 // The round that is held after a line, and whether what there was to print could be written.
-#[derive(Drop)]
+#[derive(Clone, Copy)]
 struct Printed {
     round: Round,
     written: bool,

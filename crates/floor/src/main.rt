@@ -27,7 +27,7 @@ use text::{put_bytes, put_named, up_to};
 const NAME: [u8; 5] = *b"floor";
 
 // A number in a line, and the place behind it. Where a line has no number the value is 0, which is no ante and no wager.
-#[derive(Drop)]
+#[derive(Clone, Copy)]
 struct Number {
     value: u16,
     next: usize,

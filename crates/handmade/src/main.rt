@@ -42,7 +42,7 @@ const FILE: usize = 528;
 const MOST_ITEMS: usize = 1099511627776;
 
 // What became of one turn.
-#[derive(Drop)]
+#[derive(Clone, Copy)]
 enum Turn {
     Answered,
     End,

@@ -14,7 +14,7 @@ ghost use Rattle.words.specs.Word.{word, Says};
 ghost use Rattle.lights.specs.Lit.{makes, lit_sum, places, without};
 
 // Which cards make a name.
-#[derive(Drop)]
+#[derive(Clone, Copy)]
 pub enum Light {
     All,
     // The four, three or two equal ones; of two pairs both.

@@ -21,7 +21,7 @@ ghost use Rattle.names.specs.Board.{name_board, answer_board, board_place, board
 ghost use Rattle.names.specs.Pocket.{ace_face, name_pocket, answer_pocket, pocket_place, pocket_number, pocket_values};
 ghost use Rattle.names.specs.Lo.{is_lo, name_lo, answer_lo, lo_high, lo_number, lo_values};
 
-#[derive(Drop)]
+#[derive(Clone, Copy)]
 pub enum FiveName {
     RoyalFlush,
     StraightFlush,
@@ -36,7 +36,7 @@ pub enum FiveName {
     Other,
 }
 
-#[derive(Drop)]
+#[derive(Clone, Copy)]
 pub enum BoardName {
     Royal,
     StraightFlush,
@@ -47,7 +47,7 @@ pub enum BoardName {
     Other,
 }
 
-#[derive(Drop)]
+#[derive(Clone, Copy)]
 pub enum PocketName {
     Aces,
     // An ace with a king, queen or jack of its suit.
@@ -57,32 +57,32 @@ pub enum PocketName {
     Nothing,
 }
 
-#[derive(Drop)]
+#[derive(Clone, Copy)]
 pub enum LoName {
     // The highest rank, from 0 for a two to 12 for an ace.
     High(u8),
     Nothing,
 }
 
-#[derive(Drop)]
+#[derive(Clone, Copy)]
 pub enum FiveAnswer {
     Name(FiveName),
     Refused(u8),
 }
 
-#[derive(Drop)]
+#[derive(Clone, Copy)]
 pub enum BoardAnswer {
     Name(BoardName),
     Refused(u8),
 }
 
-#[derive(Drop)]
+#[derive(Clone, Copy)]
 pub enum PocketAnswer {
     Name(PocketName),
     Refused(u8),
 }
 
-#[derive(Drop)]
+#[derive(Clone, Copy)]
 pub enum LoAnswer {
     Name(LoName),
     Refused(u8),

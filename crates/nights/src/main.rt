@@ -37,7 +37,7 @@ const ANSWERS: usize = 256;
 const MARK: u64 = 18446744073709551615;
 
 // What became of one turn.
-#[derive(Drop)]
+#[derive(Clone, Copy)]
 enum Turn {
     Answered,
     End,
@@ -45,7 +45,7 @@ enum Turn {
 }
 
 // How long the next shift and its lists are, where there is one.
-#[derive(Drop)]
+#[derive(Clone, Copy)]
 enum Next {
     Shift {
         amounts: u16,

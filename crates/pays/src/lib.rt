@@ -9,7 +9,7 @@ ghost use Rattle.std.specs.Prelude.{◌≡◌, ◌+◌, ◌*◌};
 ghost use Rattle.pays.specs.Amounts.{handed_back, win_at, above_fifty};
 
 // What a pay table says of a name.
-#[derive(Drop)]
+#[derive(Clone, Copy)]
 pub enum Pay {
     // A win at these odds to 1.
     To(u16),

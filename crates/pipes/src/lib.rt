@@ -20,14 +20,14 @@ const TRIES: usize = 4000000;
 const STATUS_FILENO: i32 = 3;
 
 // What was read: how many bytes, and whether a read failed.
-#[derive(Drop)]
+#[derive(Clone, Copy)]
 pub struct Got {
     pub bytes: usize,
     pub failed: bool,
 }
 
 // The same of a file of which the room holds the first bytes: how many these are, and how many come after them.
-#[derive(Drop)]
+#[derive(Clone, Copy)]
 pub struct First {
     pub bytes: usize,
     pub after: usize,
@@ -35,14 +35,14 @@ pub struct First {
 }
 
 // How a program was called: soundly or not, and whether with `--status`.
-#[derive(Drop)]
+#[derive(Clone, Copy)]
 pub struct Call {
     pub sound: bool,
     pub status: bool,
 }
 
 // How a program ends.
-#[derive(Drop)]
+#[derive(Clone, Copy)]
 pub enum Outcome {
     Done,
     Refused,

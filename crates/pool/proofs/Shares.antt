@@ -237,5 +237,9 @@ module _ (wins : List ℕ) (maximum : ℕ) (lent : List ℕ) where
 
   -- what is promised of an answer and of the list at the end
   pub promised : (r : Shared) (new : List ℕ) → r ≡ share_answer wins maximum (length lent) → new ≡ share_list wins maximum lent
-      → (r ≡ share_answer wins maximum (length lent)) × ((number_of r ≡ share_refusal wins maximum (length lent)) × (new ≡ share_list wins maximum lent))
-  promised r new e q = (e, (ap number_of e ∙ answer_number wins maximum (length lent), q))
+      → record {
+        answer : r ≡ share_answer wins maximum (length lent);
+        number : number_of r ≡ share_refusal wins maximum (length lent);
+        list : new ≡ share_list wins maximum lent;
+      }
+  promised r new e q = record { answer = e; number = ap number_of e ∙ answer_number wins maximum (length lent); list = q }

@@ -15,7 +15,7 @@ ghost use Rattle.pool.specs.Standings.{standings, gets_dollar, given};
 use counting::{above_of, one_where};
 
 // The answer of share.
-#[derive(Drop)]
+#[derive(Clone, Copy)]
 pub enum Shared {
     // Every win is paid in full.
     Full,
@@ -26,7 +26,7 @@ pub enum Shared {
 }
 
 // The pool of seven wins: its total in full and as paid, and the share of each.
-#[derive(Drop)]
+#[derive(Clone, Copy)]
 pub struct Pool {
     // 20 where it is refused, else 0.
     pub number: u8,

@@ -11,7 +11,7 @@ ghost use Rattle.reading.specs.File.{file_records, read_records, read_file, read
 use round::Round;
 
 // Where reading ends: the round that is then held, the refusal's number or 0, and its place.
-#[derive(Drop)]
+#[derive(Clone, Copy)]
 pub struct Reading {
     pub round: Round,
     pub number: u8,

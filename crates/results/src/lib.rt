@@ -22,7 +22,7 @@ pub const SEAT_WAGERS: usize = 5;
 pub const RESULTS: usize = 35;
 
 // What settling a round gives.
-#[derive(Drop)]
+#[derive(Clone, Copy)]
 pub struct Results {
     // The pool in dollars, full and as paid.
     pub full: u64,
@@ -32,7 +32,7 @@ pub struct Results {
 }
 
 // What is worked out once for all seats: the wins in the pool, what comes back besides, the pool, and what the Board pays.
-#[derive(Drop)]
+#[derive(Clone, Copy)]
 pub struct Judged {
     pub wins: [u64; 7],
     pub kept: [u64; 7],
@@ -41,7 +41,7 @@ pub struct Judged {
 }
 
 // The amounts of a seat.
-#[derive(Drop)]
+#[derive(Clone, Copy)]
 pub struct Amounts {
     pub base: u64,
     pub board: u64,

@@ -15,7 +15,7 @@ use dealing::Deck;
 use records::{any_plays, byte_at};
 use seating::{Table, Wagers, table_of, table_refusal};
 
-#[derive(Drop)]
+#[derive(Clone, Copy)]
 pub struct Round {
     pub table: Table,
     pub wagers: Wagers,
@@ -24,7 +24,7 @@ pub struct Round {
 }
 
 // The answer to a record.
-#[derive(Drop)]
+#[derive(Clone, Copy)]
 pub enum Answer {
     Next,
     Finished,
@@ -32,7 +32,7 @@ pub enum Answer {
 }
 
 // The answer, and beside it the round that is then held.
-#[derive(Drop)]
+#[derive(Clone, Copy)]
 pub struct Step {
     pub answer: Answer,
     pub round: Round,

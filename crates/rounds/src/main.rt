@@ -37,7 +37,7 @@ const MOST_FILES: usize = 1099511627776;
 const FILE: usize = 528;
 
 // What became of one turn.
-#[derive(Drop)]
+#[derive(Clone, Copy)]
 enum Turn {
     Answered,
     End,
@@ -45,7 +45,7 @@ enum Turn {
 }
 
 // The length of the next file, where there is one.
-#[derive(Drop)]
+#[derive(Clone, Copy)]
 enum Next {
     Long(u16),
     End,

@@ -15,7 +15,7 @@ ghost use Rattle.seating.specs.Seat.{ante_fits, most_six, sides_fit, is_above, s
 use counting::{at7, put7};
 use records::{byte_at, is_between, is_zero_from, place_of, word_at};
 
-#[derive(Drop)]
+#[derive(Clone, Copy)]
 pub struct Table {
     pub smallest: u8,
     pub largest: u8,
@@ -27,7 +27,7 @@ pub struct Table {
     pub six: u8,
 }
 
-#[derive(Drop)]
+#[derive(Clone, Copy)]
 pub struct Wagers {
     pub antes: [u16; 7],
     pub board: [u16; 7],

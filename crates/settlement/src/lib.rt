@@ -20,7 +20,7 @@ use results::{RESULTS, results_of};
 use round::Round;
 
 // The answer to a held round.
-#[derive(Drop)]
+#[derive(Clone, Copy)]
 pub enum Settlement {
     // The pool in dollars, full and as paid.
     Paid { full: u64, paid: u64 },
@@ -29,7 +29,7 @@ pub enum Settlement {
 }
 
 // The answer to a file.
-#[derive(Drop)]
+#[derive(Clone, Copy)]
 pub enum FileSettlement {
     // The pool in dollars, full and as paid.
     Paid { full: u64, paid: u64 },

@@ -20,7 +20,7 @@ use settlement::{file_number, file_place, settle_file};
 pub const ANSWER: usize = 2;
 
 // The answer to a shift.
-#[derive(Drop)]
+#[derive(Clone, Copy)]
 pub enum ShiftAnswer {
     // How many rounds it has. Both lists hold what each of them gives.
     Settled { rounds: usize },

@@ -26,7 +26,7 @@ pub fn put_bytes(room: &mut [u8], at: usize, bytes: &[u8]) -> usize
 }
 
 // A number's digits, at the end of an array, and where they begin.
-#[derive(Drop)]
+#[derive(Clone, Copy)]
 struct Spelled {
     digits: [u8; 20],
     first: usize,

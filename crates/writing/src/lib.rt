@@ -32,7 +32,7 @@ use seating::Table;
 const RECORD: usize = 16;
 
 // The answer to writing a round.
-#[derive(Drop)]
+#[derive(Clone, Copy)]
 pub enum WriteAnswer {
     Written,
     // 17, 16 or 1; the lent room is as it was.

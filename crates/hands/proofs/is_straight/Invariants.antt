@@ -1,0 +1,15 @@
+use Prim.Native.Nat.{◌+◌, ◌≤◌, ◌<◌, ◌-◌}
+use mathlib.Core.Path.{◌≡◌, sym, ◌∙◌}
+use mathlib.Core.Bool.{false}
+use native.Mathlib.Omega.{arith}
+use borrow.Author.Rules.{rules}
+use Rattle.counting.specs.Count.{some_below}
+use Rattle.counting.proofs.Ranges.{some_none, some_more, some_done, some_here}
+use Rattle.hands.specs.Hand.{of_rank, run, straight}
+use Rattle.hands.proofs.is_straight.Given as goal
+
+abbrev pub invariant-loop-i : goal.invariant-loop-i
+invariant-loop-i l = (l.i ≤ 15 - l.n) × (some_below l.i (λ j. run l.n (j + 1) (of_rank l.cards)) ≡ false)
+
+abbrev pub decreases-loop-i : goal.decreases-loop-i
+decreases-loop-i l = 15 - l.n - l.i

@@ -1,0 +1,27 @@
+-- The shares before place k have what falls to them, and those from there on are as they were.
+use Prim.Native.Nat.{ℕ, ◌+◌, ◌-◌, ◌≤◌, ◌<◌}
+use mathlib.Core.Path.{◌≡◌, refl, ◌∙◌}
+use mathlib.Core.List.{List}
+use native.Mathlib.Omega.{arith}
+use lib.ListN.{length, get_or, length-set}
+use lib.Seq.{get_or-set_other}
+use borrow.Author.Rules.{rules}
+use Rattle.counting.specs.Choose.{one}
+use Rattle.counting.specs.Count.{each}
+use Rattle.counting.proofs.Fills.{Filled, each_none, each_more, each_all}
+use Rattle.counting.proofs.Tallies.{total_at}
+use Rattle.pool.specs.Standings.{gets_dollar, given}
+use Rattle.pool.proofs.give.Given as goal
+
+abbrev with-dollar : ℕ → List ℕ → List ℕ → ℕ → ℕ
+with-dollar left stand shares k = get_or shares k 0 + one (gets_dollar left stand (get_or stand k 0))
+
+abbrev pub invariant-loop-k : goal.invariant-loop-k
+invariant-loop-k l =
+    (l.k ≤ length l.initial.shares)
+    × (length l.shares ≡ length l.initial.shares)
+    × Filled (each (length l.initial.shares) (with-dollar l.left l.stand l.initial.shares)) l.shares l.k
+    × ((j : ℕ) → l.k ≤ j → get_or l.shares j 0 ≡ get_or l.initial.shares j 0)
+
+abbrev pub decreases-loop-k : goal.decreases-loop-k
+decreases-loop-k l = length l.initial.shares - l.k

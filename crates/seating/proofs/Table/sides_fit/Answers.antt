@@ -1,0 +1,5 @@
+use borrow.Author.Rules.{rules}
+use Rattle.seating.proofs.Table.sides_fit.Goals as goal
+
+pub returns : goal.returns
+returns c = simp c.most_six.ensures
