@@ -15,7 +15,7 @@ pub loop-i-preserved : goal.loop-i-preserved
 loop-i-preserved c =
     let p = c in
     let e = c.of_rank.ensures in
-    elim c.if-of_rank-k.branch [ then-of_rank-k w ↦ rw w.found-is (tally_hit _ _ _ _ p.loop-i.invariant p.loop-i-test.true (eq-eqb _ _ (rw e at w.if-of_rank-k.true))) | else-of_rank-k w ↦ rw w.n-is (tally_miss _ _ _ _ p.loop-i.invariant p.loop-i-test.true (ne_eqb _ _ (rw e at w.if-of_rank-k.false))) ]
+    elim c.if-of_rank-k.branch [ then-of_rank-k w ↦ rw w.found-is (tally_hit _ _ _ _ p.loop-i.invariant p.loop-i-test.true (eq-eqb _ _ (rw e at w.if-of_rank-k.true))) | else-of_rank-k w ↦ rw w.found-is (tally_miss _ _ _ _ p.loop-i.invariant p.loop-i-test.true (ne_eqb _ _ (rw e at w.if-of_rank-k.false))) ]
 
 pub returns : goal.returns
 unfolding kinds

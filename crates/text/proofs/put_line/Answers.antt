@@ -1,0 +1,15 @@
+use mathlib.Core.List.{[], ◌∷◌, ◌++◌}
+use Rattle.text.specs.Text.{listed}
+use Rattle.text.proofs.Writes.{write_both, behind_both}
+use borrow.Author.Rules.{rules}
+use Rattle.text.proofs.put_line.Goals as goal
+
+pub returns : goal.returns
+returns c =
+    let p = c.put_list-next.ensures in
+    let q = c.put_bytes.ensures in
+    let a = c.args in
+    let words = a.words.now ++ listed a.numbers.now in record {
+      place = simp (q.0, p.0, p.1) (behind_both a.room.now words (10 ∷ []) a.at);
+      text = simp (q.1, p.0, p.1) (write_both a.room.now words (10 ∷ []) a.at);
+    }

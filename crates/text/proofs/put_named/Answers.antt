@@ -1,0 +1,13 @@
+use Rattle.text.specs.Text.{decimal}
+use Rattle.text.proofs.Writes.{write_both, behind_both}
+use borrow.Author.Rules.{rules}
+use Rattle.text.proofs.put_named.Goals as goal
+
+pub returns : goal.returns
+returns c =
+    let p = c.put_bytes-next.ensures in
+    let q = c.put_number.ensures in
+    let a = c.args in record {
+      place = simp (q.0, p.0, p.1) (behind_both a.room.now a.words.now (decimal a.n) a.at);
+      text = simp (q.1, p.0, p.1) (write_both a.room.now a.words.now (decimal a.n) a.at);
+    }

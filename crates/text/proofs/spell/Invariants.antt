@@ -1,0 +1,13 @@
+use Prim.Native.Nat.{◌≤◌}
+use mathlib.Core.Path.{◌≡◌, refl, ◌∙◌}
+use lib.ListN.{length, drop, replicate}
+use Rattle.text.specs.Text.{digits_then, decimal}
+use Rattle.text.proofs.Digits.{digits-first, digits_more, digits_over, digits_full}
+use borrow.Author.Rules.{rules}
+use Rattle.text.proofs.spell.Given as goal
+
+abbrev pub invariant-loop-first : goal.invariant-loop-first
+invariant-loop-first l = (l.first ≤ 19) × (length l.digits ≡ 20) × (digits_then l.first l.rest (drop l.first l.digits) ≡ decimal l.n)
+
+abbrev pub decreases-loop-first : goal.decreases-loop-first
+decreases-loop-first l = l.first

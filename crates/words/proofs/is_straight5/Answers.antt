@@ -1,0 +1,10 @@
+use Prim.Native.Nat.{ℕ}
+use mathlib.Core.Path.{ap, ◌∙◌}
+use mathlib.Core.Bool.{not}
+use lib.Dec.{eqb}
+use borrow.Author.Rules.{rules}
+use Rattle.words.proofs.Lines.{straight_begins}
+use Rattle.words.proofs.is_straight5.Goals as goal
+
+pub returns : goal.returns
+returns c = λ h has. ap (λ (x : ℕ). not (eqb x 0)) (c.runs5.ensures h has) ∙ straight_begins 5 h

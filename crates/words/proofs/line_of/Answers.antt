@@ -1,0 +1,6 @@
+use borrow.Author.Rules.{rules}
+use Rattle.words.proofs.Lines.{line}
+use Rattle.words.proofs.line_of.Goals as goal
+
+pub returns : goal.returns
+returns c = λ h has. line c.args.w h has

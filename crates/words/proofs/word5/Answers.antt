@@ -1,0 +1,15 @@
+use mathlib.Core.List.{[], ◌∷◌}
+use native.Mathlib.Omega.{arith}
+use borrow.Author.Rules.{rules}
+use Rattle.words.proofs.Cards.{word_both, word-most}
+use Rattle.words.proofs.word5.Goals as goal
+
+pub overflow_add-result : goal.overflow_add-result
+overflow_add-result c =
+    let v = c.args in
+    record { fits = omega (arith, c.word2.ensures, c.word3.ensures, word-most (v.a ∷ v.b ∷ []), word-most (v.c ∷ v.d ∷ v.e ∷ [])) }
+
+pub returns : goal.returns
+returns c =
+    let v = c.args in
+    omega (arith, c.word2.ensures, c.word3.ensures, word_both (v.a ∷ v.b ∷ []) (v.c ∷ v.d ∷ v.e ∷ []))
