@@ -29,8 +29,8 @@ feed_number r b =
     by_number (refusal r b) (λ none. if not none then refused (refusal r b) r else accepted (next r b)) (λ s. number_of s.answer) (on_or_finished (is_finished (next r b))) refl
 
 -- what is promised of an answer
-pub promised : (r : Round) (b : List ℕ) (s : Step) → s ≡ feed r b → (s ≡ feed r b) × (number_of s.answer ≡ refusal r b)
-promised r b s e = (e, ap (λ s. number_of s.answer) e ∙ feed_number r b)
+pub promised : (r : Round) (b : List ℕ) (s : Step) → s ≡ feed r b → record { answer : s ≡ feed r b; number : number_of s.answer ≡ refusal r b }
+promised r b s e = record { answer = e; number = ap (λ s. number_of s.answer) e ∙ feed_number r b }
 
 pub feed-next : (r : Round) (b : List ℕ) → refusal r b ≡ 0 → (feed r b).round ≡ next r b
 unfolding feed

@@ -5,6 +5,6 @@ pub returns : goal.returns
 returns c =
     let p = c.put_bytes.ensures in
     let d = c in record {
-      place = simp (d.hex_digit-2.ensures, d.hex_digit.ensures) at p.0;
-      text = simp (d.hex_digit-2.ensures, d.hex_digit.ensures) at p.1;
+      place = simp (d.hex_digit-2.ensures, d.hex_digit.ensures) at p.place;
+      text = simp (d.hex_digit-2.ensures, d.hex_digit.ensures) at p.text;
     }

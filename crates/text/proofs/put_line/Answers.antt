@@ -10,6 +10,6 @@ returns c =
     let q = c.put_bytes.ensures in
     let a = c.args in
     let words = a.words.now ++ listed a.numbers.now in record {
-      place = simp (q.0, p.0, p.1) (behind_both a.room.now words (10 ∷ []) a.at);
-      text = simp (q.1, p.0, p.1) (write_both a.room.now words (10 ∷ []) a.at);
+      place = simp (q.place, p.place, p.text) (behind_both a.room.now words (10 ∷ []) a.at);
+      text = simp (q.text, p.place, p.text) (write_both a.room.now words (10 ∷ []) a.at);
     }

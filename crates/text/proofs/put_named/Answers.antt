@@ -8,6 +8,6 @@ returns c =
     let p = c.put_bytes-next.ensures in
     let q = c.put_number.ensures in
     let a = c.args in record {
-      place = simp (q.0, p.0, p.1) (behind_both a.room.now a.words.now (decimal a.n) a.at);
-      text = simp (q.1, p.0, p.1) (write_both a.room.now a.words.now (decimal a.n) a.at);
+      place = simp (q.place, p.place, p.text) (behind_both a.room.now a.words.now (decimal a.n) a.at);
+      text = simp (q.text, p.place, p.text) (write_both a.room.now a.words.now (decimal a.n) a.at);
     }

@@ -7,7 +7,7 @@ pub returns : goal.returns
 returns c =
     let p = c.put_bytes.ensures in
     let s = c.spell-spelled in
-    let d = digits_part s.result.digits s.result.first s.ensures.0.1 ∙ s.ensures.1 in record {
-      place = simp d at p.0;
-      text = simp d at p.1;
+    let d = digits_part s.result.digits s.result.first s.ensures.within.1 ∙ s.ensures.digits in record {
+      place = simp d at p.place;
+      text = simp d at p.text;
     }

@@ -17,7 +17,7 @@ loop-i-preserved c =
     let p = c.put_byte-next.ensures in
     let ns = c.args.numbers.now in
     let h = c.loop-i-test.true in
-    (search rules, onward_more _ _ (listed ns) l.room l.next _ l.invariant.1 (32 ∷ decimal (get_or ns l.i 0)) _ (listed_more ns l.i h) _ _ p)
+    (search rules, onward_more _ _ (listed ns) l.room l.next _ l.invariant.1 (32 ∷ decimal (get_or ns l.i 0)) _ (listed_more ns l.i h) _ _ (p.place, p.text))
 
 pub returns : goal.returns
 returns c =
@@ -27,6 +27,6 @@ returns c =
     let h = c.loop-i-test.false in
     let ns = a.numbers.now in
     let o = onward_over _ _ (listed ns) l.room l.next _ l.invariant.1 (listed_over ns l.i h) in record {
-      place = o.0 ∙ simp (p.0, p.1) (behind_both a.room.now a.words.now (listed ns) a.at);
-      text = o.1 ∙ simp (p.0, p.1) (write_both a.room.now a.words.now (listed ns) a.at);
+      place = o.0 ∙ simp (p.place, p.text) (behind_both a.room.now a.words.now (listed ns) a.at);
+      text = o.1 ∙ simp (p.place, p.text) (write_both a.room.now a.words.now (listed ns) a.at);
     }

@@ -4,21 +4,9 @@ use Rattle.round.specs.Feed.{accepted, feed}
 use Rattle.round.proofs.Numbers.{promised}
 use Rattle.round.proofs.Round.feed.Goals as goal
 
-pub refusal-number-requires : goal.refusal-number-requires
-refusal-number-requires c = tt
-
-pub refuse-requires : goal.refuse-requires
-refuse-requires c = tt
-
 pub returns-then-number-ne0 : goal.returns-then-number-ne0
 unfolding feed
 returns-then-number-ne0 c = promised _ _ _ (rw (sym c.refusal-number.ensures, ne_eqb _ 0 c.if-number-ne0.true) c.refuse.ensures)
-
-pub next-self-requires : goal.next-self-requires
-next-self-requires c = tt
-
-pub accept-requires : goal.accept-requires
-accept-requires c = tt
 
 pub returns : goal.returns
 unfolding feed

@@ -8,12 +8,6 @@ pub returns-then-bytes-ne16 : goal.returns-then-bytes-ne16
 unfolding refusal
 returns-then-bytes-ne16 c = rw (ne_eqb _ 16 c.if-bytes-ne16.true) refl
 
-pub byte_at-requires : goal.byte_at-requires
-byte_at-requires c = tt
-
-pub may_come-requires : goal.may_come-requires
-may_come-requires c = tt
-
 pub returns-then-not-may_come : goal.returns-then-not-may_come
 unfolding refusal
 returns-then-not-may_come c =
@@ -21,9 +15,6 @@ returns-then-not-may_come c =
       eq-eqb _ 16 c.if-bytes-ne16.false,
       ap (may_come c.args.self) (sym c.byte_at.ensures) ∙ sym c.may_come.ensures ∙ c.if-not-may_come.true,
     ) refl
-
-pub kind_refusal-requires : goal.kind_refusal-requires
-kind_refusal-requires c = tt
 
 pub returns : goal.returns
 unfolding refusal
