@@ -24,19 +24,19 @@ use Rattle.led.proofs.Took.{Took, took}
 use Rattle.led.proofs.Took.Took.{table, seat, part, choice}
 use Rattle.led.proofs.Kept.{Long, long_kept, fresh_long, led_fits}
 
-one_more : (r s : Round) (b : List ℕ) → Long r → Took r b s → records_taken s ≡ records_taken r + 1
+one_more : (r : Round) (b : List ℕ) (s : Round) → Long r → Took r b s → records_taken s ≡ records_taken r + 1
 unfolding records_taken
-one_more r s b l (table k h e) = omega (arith, ap one h, ap one (table_read b e))
-one_more r s b l (seat k h z e) = omega (arith, seat_taken r.table r.wagers b l.wagers h e)
-one_more r s b l (part k p h e) = omega (arith, part_next r.deck b h)
-one_more r s b l (choice k d o e) = omega (arith, choice_taken r.wagers.antes r.play b l.play o e)
+one_more r b s l (table k h e) = omega (arith, ap one h, ap one (table_read b e))
+one_more r b s l (seat k h z e) = omega (arith, seat_taken r.table r.wagers b l.wagers h e)
+one_more r b s l (part k p h e) = omega (arith, part_next r.deck b h)
+one_more r b s l (choice k d o e) = omega (arith, choice_taken r.wagers.antes r.play b l.play o e)
 
 counts : {r s : Round} {l : List (List ℕ)} → Leads r l s → Long r → records_taken s ≡ records_taken r + length l
 counts done l = omega arith
 counts (then {r} b h a k) l =
     let t = took r b a in
     let q = (feed r b).round in
-    omega (arith, one_more r q b l t.1, counts k (long_kept r q b l t.1))
+    omega (arith, one_more r b q l t.1, counts k (long_kept r b q l t.1))
 
 none_yet : records_taken fresh_round ≡ 0
 unfolding records_taken

@@ -75,11 +75,11 @@ pub fresh_fits : Fits fresh_round
 fresh_fits =
     record { table = table_fresh; seats = seats_fresh no_table; deck = deck_fresh; seated = refl; play = play_fresh fresh_round.wagers.antes 0 }
 
-pub long_kept : (r s : Round) (b : List ℕ) → Long r → Took r b s → Long s
-long_kept r s b l (table k h e) = record { wagers = l.wagers; cards = l.cards; play = l.play }
-long_kept r s b l (seat k h z e) = record { wagers = seat_seven r.wagers b l.wagers; cards = l.cards; play = l.play }
-long_kept r s b l (part k p h e) = record { wagers = l.wagers; cards = part_sized r.deck b ∙ l.cards; play = l.play }
-long_kept r s b l (choice k d o e) =
+pub long_kept : (r : Round) (b : List ℕ) (s : Round) → Long r → Took r b s → Long s
+long_kept r b s l (table k h e) = record { wagers = l.wagers; cards = l.cards; play = l.play }
+long_kept r b s l (seat k h z e) = record { wagers = seat_seven r.wagers b l.wagers; cards = l.cards; play = l.play }
+long_kept r b s l (part k p h e) = record { wagers = l.wagers; cards = part_sized r.deck b ∙ l.cards; play = l.play }
+long_kept r b s l (choice k d o e) =
     record { wagers = l.wagers; cards = l.cards; play = choice_sized r.wagers.antes r.play b l.play }
 
 -- before the first street opens there is no choice, whatever the antes are
@@ -88,8 +88,8 @@ early r f h =
     play_unopened r.wagers.antes r.play
     (ap (play_fits r.wagers.antes r.play) (sym (not_opened r h)) ∙ f.play)
 
-fits_kept : (r s : Round) (b : List ℕ) → Long r → length b ≡ 16 → Fits r → Took r b s → Fits s
-fits_kept r s b l long f (table k h e) =
+fits_kept : (r : Round) (b : List ℕ) (s : Round) → Long r → length b ≡ 16 → Fits r → Took r b s → Fits s
+fits_kept r b s l long f (table k h e) =
     record {
       table = table_kept b e;
       seats = seats_before_table r.table (table_of b) r.wagers h f.seats;
@@ -97,7 +97,7 @@ fits_kept r s b l long f (table k h e) =
       seated = f.seated;
       play = f.play;
     }
-fits_kept r s b l long f (seat k h z e) =
+fits_kept r b s l long f (seat k h z e) =
     let w = with_seat r.wagers b in
     record {
       table = f.table;
@@ -106,7 +106,7 @@ fits_kept r s b l long f (seat k h z e) =
       seated = first_holds (eqb r.deck.parts 0) (any_plays w.antes) (eq-eqb r.deck.parts 0 z);
       play = early r f (omega arith) w.antes (opened (with_wagers r w));
     }
-fits_kept r s b l long f (part k p h e) =
+fits_kept r b s l long f (part k p h e) =
     let d = with_part r.deck b in
     record {
       table = f.table;
@@ -115,7 +115,7 @@ fits_kept r s b l long f (part k p h e) =
       seated = second_holds (eqb d.parts 0) (any_plays r.wagers.antes) p;
       play = early r f h r.wagers.antes (opened (with_deck r d));
     }
-fits_kept r s b l long f (choice k d o e) =
+fits_kept r b s l long f (choice k d o e) =
     let antes = r.wagers.antes in
     let p = with_choice antes r.play b in
     record {
@@ -130,12 +130,12 @@ fits_kept r s b l long f (choice k d o e) =
 -- an accepted record keeps both
 pub taken_fits : (r : Round) (b : List ℕ) → Long r → Fits r → is_taken (feed r b).answer ≡ true → Long (feed r b).round × Fits (feed r b).round
 taken_fits r b l f a =
-    let t = took r b a in (long_kept r (feed r b).round b l t.1, fits_kept r (feed r b).round b l t.0 f t.1)
+    let t = took r b a in (long_kept r b (feed r b).round l t.1, fits_kept r b (feed r b).round l t.0 f t.1)
 
 -- along any accepted records
 pub leads_long : {r s : Round} {l : List (List ℕ)} → Leads r l s → Long r → Long s
 leads_long done l = l
-leads_long (then {r} b h a k) l = leads_long k (long_kept r (feed r b).round b l (took r b a).1)
+leads_long (then {r} b h a k) l = leads_long k (long_kept r b (feed r b).round l (took r b a).1)
 
 pub leads_fits : {r s : Round} {l : List (List ℕ)} → Leads r l s → Long r → Fits r → Fits s
 leads_fits done l f = f

@@ -27,14 +27,14 @@ record Chose (r : Round) (b : List ℕ) (s : Round) : Type 0 where
   none : choice_refusal r.wagers.antes r.play b ≡ 0
   round : s ≡ with_play r (with_choice r.wagers.antes r.play b)
 
-of_kind : (r s : Round) (b : List ℕ) → length b ≡ 16 → byte b 0 ≡ 4 → Took r b s → Chose r b s
-of_kind r s b l four (table k h e) = absurd (omega arith)
-of_kind r s b l four (seat k h z e) = absurd (omega arith)
-of_kind r s b l four (part k p h e) = absurd (omega arith)
-of_kind r s b l four (choice k d o e) = record { long = l; dealt = d; street = o; none = e; round = refl }
+of_kind : (r : Round) (b : List ℕ) (s : Round) → length b ≡ 16 → byte b 0 ≡ 4 → Took r b s → Chose r b s
+of_kind r b s l four (table k h e) = absurd (omega arith)
+of_kind r b s l four (seat k h z e) = absurd (omega arith)
+of_kind r b s l four (part k p h e) = absurd (omega arith)
+of_kind r b s l four (choice k d o e) = record { long = l; dealt = d; street = o; none = e; round = refl }
 
 chose : (r : Round) (b : List ℕ) → byte b 0 ≡ 4 → is_taken (feed r b).answer ≡ true → Chose r b (feed r b).round
-chose r b four a = let t = took r b a in of_kind r (feed r b).round b t.0 four t.1
+chose r b four a = let t = took r b a in of_kind r b (feed r b).round t.0 four t.1
 
 pub swap_neighbours : {r s : Round} {l : List (List ℕ)} (b c : List ℕ) → byte b 0 ≡ 4 → byte c 0 ≡ 4 → (byte b 1 ≡ byte c 1 → ⊥)
     → street_of (feed r b).round ≡ street_of r → Leads r (b ∷ c ∷ l) s → Leads r (c ∷ b ∷ l) s

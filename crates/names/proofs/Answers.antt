@@ -39,7 +39,7 @@ is_named_by named refused name n cs refusal e z given same =
 
 -- what an entry promises of its answer r: which it is, its number, and its values
 abbrev pub Promised : {Answer : Type 0} → (Answer → ℕ) → (Answer → List ℕ) → ℕ → ℕ → Answer → Answer → Type 0
-Promised number values n value a r = (r ≡ a) × ((number r ≡ n) × (values r ≡ unless_refused n (value ∷ [])))
+Promised number_of values_of n value a r = record { answer : r ≡ a; number : number_of r ≡ n; values : values_of r ≡ unless_refused n (value ∷ []) }
 
 pub promised : {Name Answer : Type 0} (named : Name → Answer) (refused : ℕ → Answer) (number : Answer → ℕ) (values : Answer → List ℕ) (n : ℕ) (name : Name) (value : ℕ)
     → number (named name) ≡ 0 → number (refused n) ≡ n → values (named name) ≡ value ∷ [] → values (refused n) ≡ []
@@ -47,7 +47,7 @@ pub promised : {Name Answer : Type 0} (named : Name → Answer) (refused : ℕ �
 unfolding answer
 promised {Name} {Answer} named refused number values n name value none some told untold r e =
     let by : Bool → Answer = λ b. if b then named name else refused n in
-    (e, (ap number e ∙ by_number n by number none some, ap values e ∙ by_values n by values (value ∷ []) told untold))
+    record { answer = e; number = ap number e ∙ by_number n by number none some; values = ap values e ∙ by_values n by values (value ∷ []) told untold }
 
 pub five_promised : (cs : List ℕ) (r : FiveAnswer) → r ≡ answer_five cs → Promised five_number five_values (hand_refusal 5 cs) (five_place (name_five cs)) (answer_five cs) r
 unfolding answer_five

@@ -5,20 +5,20 @@ use Rattle.lights.proofs.ranks_of.Goals as goal
 
 pub returns-in-All : goal.returns-in-All
 unfolding digits
-returns-in-All c = λ h has. rw c.enum_told.given.1 refl
+returns-in-All c = λ h has. rw c.in-All.is refl
 
 pub returns-in-Fours : goal.returns-in-Fours
-returns-in-Fours c = λ h has. rw c.enum_told-in-Fours-1.given.1 (c.fours.ensures h has)
+returns-in-Fours c = λ h has. rw c.in-Fours.is (c.fours.ensures h has)
 
 pub returns-in-Threes : goal.returns-in-Threes
-returns-in-Threes c = λ h has. rw c.enum_told-in-Threes-1.given.1 (c.threes.ensures h has)
+returns-in-Threes c = λ h has. rw c.in-Threes.is (c.threes.ensures h has)
 
 pub returns-in-Pairs : goal.returns-in-Pairs
-returns-in-Pairs c = λ h has. rw c.enum_told-in-Pairs-1.given.1 (c.twos.ensures h has)
+returns-in-Pairs c = λ h has. rw c.in-Pairs.is (c.twos.ensures h has)
 
 pub returns-in-High : goal.returns-in-High
-returns-in-High c = λ h has. rw c.light.given.1 c.word_of.ensures
+returns-in-High c = λ h has. rw c.in-High.is c.word_of.ensures
 
 pub returns-in-Dark : goal.returns-in-Dark
 unfolding digits
-returns-in-Dark c = λ h has. rw c.enum_told-in-Dark-1.given.1 refl
+returns-in-Dark c = λ h has. rw c.in-Dark.is refl

@@ -1,0 +1,8 @@
+-- `reading::read_file` meets its contract.
+use mathlib.Core.Path.{◌∙◌}
+use borrow.Author.Rules.{rules}
+use Rattle.reading.proofs.Prefix.{prefix_none}
+use Rattle.reading.proofs.read_file.Goals as goal
+
+pub returns : goal.returns
+returns c = c.read_prefix.ensures ∙ prefix_none _
