@@ -39,5 +39,5 @@ take_number r b = go (is_held r)
     go false = refl
 
 -- what is promised of an answer
-pub promised : (r : Round) (b : List ℕ) (s : Step) → Taken r b s → Taken r b s × (number_of s.answer ≡ take_refusal r b)
-promised r b s t = (t, ap (λ s. number_of s.answer) t.answer ∙ take_number r b)
+pub promised : (r : Round) (b : List ℕ) (s : Step) → Taken r b s → record { taken : Taken r b s; number : number_of s.answer ≡ take_refusal r b }
+promised r b s t = record { taken = t; number = ap (λ s. number_of s.answer) t.answer ∙ take_number r b }

@@ -13,16 +13,16 @@ overflow_add-all-5 c =
     record { fits = omega (arith, (six_words v.a v.b v.c v.d v.e v.f c.word1-wa.ensures c.word1-wb.ensures c.word1-wc.ensures c.word1-wd.ensures c.word1-we.ensures c.word1-wf.ensures).1) }
 
 pub overflow_add-all : goal.overflow_add-all
-overflow_add-all c = let all = (overflow_add-all-5 c).ranges in record { fits = omega (arith, all) }
+overflow_add-all c = let all = (overflow_add-all-5 c).fits in record { fits = omega (arith, all) }
 
 pub overflow_add-all-2 : goal.overflow_add-all-2
-overflow_add-all-2 c = let all = (overflow_add-all-5 c).ranges in record { fits = omega (arith, all) }
+overflow_add-all-2 c = let all = (overflow_add-all-5 c).fits in record { fits = omega (arith, all) }
 
 pub overflow_add-all-3 : goal.overflow_add-all-3
-overflow_add-all-3 c = let all = (overflow_add-all-5 c).ranges in record { fits = omega (arith, all) }
+overflow_add-all-3 c = let all = (overflow_add-all-5 c).fits in record { fits = omega (arith, all) }
 
 pub overflow_add-all-4 : goal.overflow_add-all-4
-overflow_add-all-4 c = let all = (overflow_add-all-5 c).ranges in record { fits = omega (arith, all) }
+overflow_add-all-4 c = let all = (overflow_add-all-5 c).fits in record { fits = omega (arith, all) }
 
 pub returns : goal.returns
 unfolding best_up_to without

@@ -10,11 +10,10 @@ pub returns : goal.returns
 unfolding is_held
 returns c =
     let round = c.args.round in
-    let fields = c.well-formed.0.1.1.1 in
     let antes : length round.wagers.antes ≡ 7 = search rules in
     let board : length round.wagers.board ≡ 7 = search rules in
     let pocket : length round.wagers.pocket ≡ 7 = search rules in
-    let six : length round.wagers.six ≡ 7 = search (rules, fields.0.1.1.1.1.1.1.0.1.0.1) in
+    let six : length round.wagers.six ≡ 7 = search rules in
     let lo : length round.wagers.lo ≡ 7 = search rules in
     let cards : length round.deck.cards ≡ 52 = search rules in
     let raises : length round.play.raises ≡ 21 = search rules in
@@ -25,4 +24,4 @@ returns c =
       cards = cards;
       play = record { raises = raises; folds = folds };
     } in
-    decides round _ long (simp (c.fits4.ensures, c.opened_of.ensures, c.is_dealt_after_seats.ensures, c.fits-3.ensures, c.fit.ensures, c.fits-2.ensures))
+    decides round _ long (simp (c.fits-3.ensures, c.opened_of.ensures, c.is_dealt_after_seats.ensures, c.fits-2.ensures, c.fit.ensures, c.fits.ensures))
