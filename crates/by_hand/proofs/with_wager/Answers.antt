@@ -1,0 +1,5 @@
+use borrow.Author.Rules.{rules}
+use Rattle.by_hand.proofs.with_wager.Goals as goal
+
+pub returns : goal.returns
+returns c = simp c.wagers_with-more.ensures

@@ -1,0 +1,13 @@
+use mathlib.Core.Path.{◌≡◌, refl, ◌∙◌}
+use Prim.Native.Nat.{◌-◌}
+use lib.ListN.{length}
+use Rattle.columns.specs.Columns.{line_end}
+use Rattle.columns.proofs.Lines.{line_here, line_more, line_over}
+use borrow.Author.Rules.{rules}
+use Rattle.columns.proofs.line_end.Given as goal
+
+abbrev pub invariant-loop-i : goal.invariant-loop-i
+invariant-loop-i l = line_end l.text l.i ≡ line_end l.text l.from
+
+abbrev pub decreases-loop-i : goal.decreases-loop-i
+decreases-loop-i l = length l.text - l.i

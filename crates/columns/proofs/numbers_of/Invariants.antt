@@ -1,0 +1,13 @@
+use Prim.Native.Nat.{◌≤◌, ◌<◌, ◌-◌}
+use mathlib.Core.Path.{◌≡◌}
+use lib.ListN.{length}
+use native.Mathlib.Omega.{arith}
+use Rattle.columns.proofs.Read.{Read, read_more}
+use borrow.Author.Rules.{rules}
+use Rattle.columns.proofs.numbers_of.Given as goal
+
+abbrev pub invariant-loop-k : goal.invariant-loop-k
+invariant-loop-k l = (l.k ≤ 21) × (length l.numbers ≡ 21) × Read l.line l.numbers l.k
+
+abbrev pub decreases-loop-k : goal.decreases-loop-k
+decreases-loop-k l = 21 - l.k

@@ -1,0 +1,24 @@
+use Prim.Native.Nat.{◌-◌}
+use mathlib.Core.Path.{sym, ◌∙◌}
+use mathlib.Core.Logic.{⊎_elim}
+use Rattle.counting.proofs.Ranges.{Tallied, tally-none, tally_hit, tally_miss, tally-done}
+use Rattle.choosing.specs.Streets.{has_chosen}
+use borrow.Author.Rules.{rules}
+use Rattle.writing.proofs.choices_on.Goals as goal
+
+pub loop-k-init : goal.loop-k-init
+loop-k-init c = tally-none _ _
+
+pub loop-k-preserved : goal.loop-k-preserved
+loop-k-preserved c = let l = c.loop-k in
+    let e = sym c.has_chosen.ensures in
+    ⊎_elim
+    (λ w. rw w.1 (tally_hit _ _ _ _ l.invariant c.loop-k-test.true (e ∙ w.0.taken)))
+    (λ w. rw w.1 (tally_miss _ _ _ _ l.invariant c.loop-k-test.true (e ∙ w.0.left)))
+    c.if-has_chosen.branch
+
+pub returns : goal.returns
+returns c = record {
+  choices = tally-done _ _ _ _ c.loop-k.invariant c.loop-k-test.false;
+  most = search rules;
+}

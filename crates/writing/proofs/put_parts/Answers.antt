@@ -1,0 +1,26 @@
+use Prim.Native.Nat.{◌-◌}
+use mathlib.Core.List.{[], ◌∷◌}
+use native.Mathlib.Omega.{arith}
+use Rattle.dealing.specs.Part.{part_record}
+use Rattle.dealing.proofs.Parts.{parts_le}
+use Rattle.led.proofs.Kept.{held_fits}
+use Rattle.writing.proofs.Stores.{Placed, placed-none, placed_room, placed_more, placed_all}
+use borrow.Author.Rules.{rules}
+use Rattle.writing.proofs.put_parts.Goals as goal
+
+pub loop-n-init : goal.loop-n-init
+loop-n-init c = placed-none _ _ _ _
+
+pub part_record-requires : goal.part_record-requires
+part_record-requires c = omega (arith, parts_le _ (held_fits _ c.requires.0).deck, c.loop-n-test.true)
+
+pub put_if-end-requires : goal.put_if-end-requires
+put_if-end-requires c = rw c.part_record.ensures (placed_room _ _ _ _ _ _ _ c.loop-n.invariant c.loop-n-test.true c.requires.1)
+
+pub loop-n-preserved : goal.loop-n-preserved
+loop-n-preserved c = placed_more _ _ _ _ _ _ _ c.loop-n.invariant c.loop-n-test.true _ _ (rw c.part_record.ensures at c.put_if-end.ensures)
+
+pub returns : goal.returns
+returns c =
+    let both = placed_all _ _ _ _ _ _ _ c.loop-n.invariant c.loop-n-test.false in
+    record { list = both.0; end = both.1 }
