@@ -19,21 +19,21 @@ use Rattle.reading.proofs.Records.{joined-append}
 
 -- these bytes were stored into a room from byte `at` on: the room now, and the byte after them
 abbrev pub Stored : List ℕ → ℕ → List ℕ → List ℕ → ℕ → Type 0
-Stored lent at bytes room end = (room ≡ sets lent at bytes) × (end ≡ at + length bytes)
+Stored lent at bytes room end = record { list : room ≡ sets lent at bytes; end : end ≡ at + length bytes }
 
 pub stored_long : (lent : List ℕ) (at : ℕ) (xs room : List ℕ) (end : ℕ) → Stored lent at xs room end → length room ≡ length lent
-stored_long lent at xs room end s = ap length s.0 ∙ length-sets lent at xs
+stored_long lent at xs room end s = ap length s.list ∙ length-sets lent at xs
 
 pub stored_then : (lent : List ℕ) (at : ℕ) (xs room : List ℕ) (end : ℕ) (ys new : List ℕ) (far : ℕ)
     → Stored lent at xs room end → Stored room end ys new far → Stored lent at (xs ++ ys) new far
 stored_then lent at xs room end ys new far s t =
-    (t.0 ∙ rw (s.0, s.1) (sym (sets_append xs ys lent at)), omega (arith, t.1, s.1, length-append xs ys))
+    record { list = t.list ∙ rw (s.list, s.end) (sym (sets_append xs ys lent at)); end = omega (arith, t.end, s.end, length-append xs ys) }
 
 -- ---- one record, where there is one
 
 pub stored_absent : (lent : List ℕ) (at : ℕ) (t : Bool) (b : List ℕ) → t ≡ false → Stored lent at (joined (only t b)) lent at
 unfolding joined
-stored_absent lent at t b e = rw e (refl, omega arith)
+stored_absent lent at t b e = rw e (record { list = refl; end = omega arith })
 
 pub present : (t : Bool) (b : List ℕ) → t ≡ true → joined (only t b) ≡ b
 unfolding joined
@@ -63,7 +63,7 @@ module _ (f : ℕ → List (List ℕ)) where
 
     pub placed-none : (n : ℕ) → Placed n 0 lent at
     unfolding gather joined
-    placed-none n = (omega arith, refl, (refl, omega arith))
+    placed-none n = (omega arith, refl, record { list = refl; end = omega arith })
 
     module _ (n k end : ℕ) (room : List ℕ) (p : Placed n k room end) where
       -- there is room for those of the next place where there is for all
@@ -73,7 +73,7 @@ module _ (f : ℕ → List (List ℕ)) where
           let more : length (bytes_to (k + 1)) ≤ length (bytes_to n) = rw e at (bytes_le (k + 1) (n - (k + 1))) in
           let long : length (bytes_to (k + 1)) ≡ length (bytes_to k) + length (joined (f k)) =
           ap length (bytes_more k) ∙ length-append (bytes_to k) (joined (f k)) in
-          omega (arith, p.1, p.2.1)
+          omega (arith, p.1, p.2.end)
 
       pub placed_more : k < n → (new : List ℕ) (far : ℕ) → Stored room end (joined (f k)) new far → Placed n (k + 1) new far
       placed_more h new far s =

@@ -5,6 +5,7 @@ use Rattle.counting.proofs.Ranges.{Tallied, tally-none, tally_hit, tally_miss, t
 use Rattle.choosing.specs.Streets.{has_chosen}
 use borrow.Author.Rules.{rules}
 use Rattle.writing.proofs.choices_on.Goals as goal
+use Rattle.writing.proofs.choices_on.Goals.{then-has_chosen, else-has_chosen}
 
 pub loop-k-init : goal.loop-k-init
 loop-k-init c = tally-none _ _
@@ -12,10 +13,7 @@ loop-k-init c = tally-none _ _
 pub loop-k-preserved : goal.loop-k-preserved
 loop-k-preserved c = let l = c.loop-k in
     let e = sym c.has_chosen.ensures in
-    ⊎_elim
-    (λ w. rw w.1 (tally_hit _ _ _ _ l.invariant c.loop-k-test.true (e ∙ w.0.taken)))
-    (λ w. rw w.1 (tally_miss _ _ _ _ l.invariant c.loop-k-test.true (e ∙ w.0.left)))
-    c.if-has_chosen.branch
+    elim c.if-has_chosen.branch [ then-has_chosen w ↦ rw w.chosen-is (tally_hit _ _ _ _ l.invariant c.loop-k-test.true (e ∙ w.if-has_chosen.true)) | else-has_chosen w ↦ rw w.chosen-is (tally_miss _ _ _ _ l.invariant c.loop-k-test.true (e ∙ w.if-has_chosen.false)) ]
 
 pub returns : goal.returns
 returns c = record {

@@ -11,6 +11,4 @@ pub put_if-requires : goal.put_if-requires
 put_if-requires c = rw (c.has_chosen.ensures, c.choice_record-bytes.ensures, c.raise_on.ensures) c.requires.1
 
 pub returns : goal.returns
-returns c =
-    let both = rw (c.has_chosen.ensures, c.choice_record-bytes.ensures, c.raise_on.ensures) at c.put_if.ensures in
-    record { list = both.0; end = both.1 }
+returns c = rw (c.has_chosen.ensures, c.choice_record-bytes.ensures, c.raise_on.ensures) at c.put_if.ensures

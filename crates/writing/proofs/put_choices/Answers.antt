@@ -15,6 +15,4 @@ pub loop-i-preserved : goal.loop-i-preserved
 loop-i-preserved c = placed_more (choice_at c.args.round.play) _ _ 21 _ _ _ c.loop-i.invariant c.loop-i-test.true _ _ c.put_choice-end.ensures
 
 pub returns : goal.returns
-returns c =
-    let both = rw (choices_at c.args.round) at (placed_all (choice_at c.args.round.play) _ _ 21 _ _ _ c.loop-i.invariant c.loop-i-test.false) in
-    record { list = both.0; end = both.1 }
+returns c = rw (choices_at c.args.round) at (placed_all (choice_at c.args.round.play) _ _ 21 _ _ _ c.loop-i.invariant c.loop-i-test.false)

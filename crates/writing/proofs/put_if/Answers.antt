@@ -25,5 +25,4 @@ pub returns : goal.returns
 returns c = let a = c.args in
     let long : length a.bytes ≡ 16 = search rules in
     let e = present a.there a.bytes (c.if-not-there.false) in
-    let both = rw e (c.put.ensures, omega arith) in
-    record { list = both.0; end = both.1 }
+    rw e (record { list = c.put.ensures; end = omega arith })

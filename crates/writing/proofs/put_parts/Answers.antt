@@ -21,6 +21,4 @@ pub loop-n-preserved : goal.loop-n-preserved
 loop-n-preserved c = placed_more _ _ _ _ _ _ _ c.loop-n.invariant c.loop-n-test.true _ _ (rw c.part_record.ensures at c.put_if-end.ensures)
 
 pub returns : goal.returns
-returns c =
-    let both = placed_all _ _ _ _ _ _ _ c.loop-n.invariant c.loop-n-test.false in
-    record { list = both.0; end = both.1 }
+returns c = placed_all _ _ _ _ _ _ _ c.loop-n.invariant c.loop-n-test.false

@@ -19,6 +19,4 @@ pub loop-k-preserved : goal.loop-k-preserved
 loop-k-preserved c = placed_more _ _ _ 7 _ _ _ c.loop-k.invariant c.loop-k-test.true _ _ (rw (c.seat_record.ensures, c.at7-there.ensures) at c.put_if-end.ensures)
 
 pub returns : goal.returns
-returns c =
-    let both = placed_all _ _ _ 7 _ _ _ c.loop-k.invariant c.loop-k-test.false in
-    record { list = both.0; end = both.1 }
+returns c = placed_all _ _ _ 7 _ _ _ c.loop-k.invariant c.loop-k-test.false

@@ -22,8 +22,7 @@ returns-then-not-is_read c = let none = sym c.is_read.ensures ∙ c.if-not-is_re
     let one = c.choices_on-3.ensures in
     let two = c.choices_on-2.ensures in
     let three = c.choices_on.ensures in
-    let both = rw none (omega (arith, one.choices, two.choices, three.choices), omega (arith, one.most, two.most, three.most)) in
-    record { taken = both.0; most = both.1 }
+    rw none (record { taken = omega (arith, one.choices, two.choices, three.choices); most = omega (arith, one.most, two.most, three.most) })
 
 pub returns : goal.returns
 unfolding records_taken choices_taken sum_below playing_before
@@ -33,5 +32,4 @@ returns c = let read = sym c.is_read.ensures ∙ c.if-not-is_read.false in
     let one = c.choices_on-3.ensures in
     let two = c.choices_on-2.ensures in
     let three = c.choices_on.ensures in
-    let both = rw read (omega (arith, one.choices, two.choices, three.choices), omega (arith, one.most, two.most, three.most)) in
-    record { taken = both.0; most = both.1 }
+    rw read (record { taken = omega (arith, one.choices, two.choices, three.choices); most = omega (arith, one.most, two.most, three.most) })
