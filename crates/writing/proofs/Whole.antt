@@ -50,11 +50,11 @@ module _ (r : Round) where
 
     module _ (one : List ℕ) (x : ℕ) (s : Stored lent 0 table one x) where
       pub seats_room : x + length seats ≤ length one
-      seats_room = omega (arith, parts_long, stored_long lent 0 table one x s, s.1)
+      seats_room = omega (arith, parts_long, stored_long lent 0 table one x s, s.end)
 
       module _ (two : List ℕ) (y : ℕ) (t : Stored one x seats two y) where
         pub parts_room : y + length parts ≤ length two
-        parts_room = omega (arith, parts_long, stored_long lent 0 table one x s, s.1, stored_long one x seats two y t, t.1)
+        parts_room = omega (arith, parts_long, stored_long lent 0 table one x s, s.end, stored_long one x seats two y t, t.end)
 
         module _ (three : List ℕ) (z : ℕ) (u : Stored two y parts three z) where
           before : Stored lent 0 ((table ++ seats) ++ parts) three z
@@ -66,7 +66,7 @@ module _ (r : Round) where
                 arith,
                 parts_long,
                 stored_long lent 0 ((table ++ seats) ++ parts) three z before,
-                before.1,
+                before.end,
                 length-append (table ++ seats) parts,
                 length-append table seats,
               )
@@ -76,4 +76,4 @@ module _ (r : Round) where
               let all = stored_then lent 0 ((table ++ seats) ++ parts) three z choices four w before v in
               let whole : ((table ++ seats) ++ parts) ++ choices ≡ file_of r =
               append_assoc (table ++ seats) parts choices ∙ append_assoc table seats (parts ++ choices) ∙ sym file_parts in
-              all.0 ∙ rw whole (sets_all lent (file_of r) long)
+              all.list ∙ rw whole (sets_all lent (file_of r) long)

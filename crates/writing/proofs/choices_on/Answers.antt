@@ -13,7 +13,7 @@ loop-k-init c = tally-none _ _
 pub loop-k-preserved : goal.loop-k-preserved
 loop-k-preserved c = let l = c.loop-k in
     let e = sym c.has_chosen.ensures in
-    elim c.if-has_chosen.branch [ then-has_chosen w ↦ rw w.chosen-is (tally_hit _ _ _ _ l.invariant c.loop-k-test.true (e ∙ w.if-has_chosen.true)) | else-has_chosen w ↦ rw w.chosen-is (tally_miss _ _ _ _ l.invariant c.loop-k-test.true (e ∙ w.if-has_chosen.false)) ]
+    elim c.if-has_chosen.branch [ then-has_chosen w ↦ rw w.choices-is (tally_hit _ _ _ _ l.invariant c.loop-k-test.true (e ∙ w.if-has_chosen.true)) | else-has_chosen w ↦ rw w.choices-is (tally_miss _ _ _ _ l.invariant c.loop-k-test.true (e ∙ w.if-has_chosen.false)) ]
 
 pub returns : goal.returns
 returns c = record {

@@ -8,8 +8,7 @@ use Rattle.writing.proofs.put_if.Goals as goal
 
 pub returns-then-not-there : goal.returns-then-not-there
 returns-then-not-there c = let a = c.args in
-    let both = stored_absent _ _ a.there a.bytes (c.if-not-there.true) in
-    record { list = both.0; end = both.1 }
+    stored_absent _ _ a.there a.bytes (c.if-not-there.true)
 
 pub put-requires : goal.put-requires
 put-requires c = let a = c.args in

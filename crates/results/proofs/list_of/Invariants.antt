@@ -1,0 +1,14 @@
+use Prim.Native.Nat.{◌-◌, ◌≤◌}
+use mathlib.Core.Path.{refl}
+use native.Mathlib.Omega.{arith}
+use lib.ListN.{replicate}
+use Rattle.results.specs.Results.{results_long}
+use Rattle.results.proofs.Filling.{Seats, no_seats, next_seat, all_seats}
+use borrow.Author.Rules.{rules}
+use Rattle.results.proofs.list_of.Given as goal
+
+abbrev pub invariant-loop-k : goal.invariant-loop-k
+invariant-loop-k l = (l.k ≤ 7) × Seats l.round l.list l.k
+
+abbrev pub decreases-loop-k : goal.decreases-loop-k
+decreases-loop-k l = 7 - l.k

@@ -1,0 +1,5 @@
+use borrow.Author.Rules.{rules}
+use Rattle.results.proofs.results_of.Goals as goal
+
+pub returns : goal.returns
+returns c = simp (c.list_of-amounts.ensures, c.judge-judged.ensures)
