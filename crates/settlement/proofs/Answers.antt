@@ -28,24 +28,25 @@ use Rattle.settlement.specs.Settle.{settle_refusal, settle_answer, settle_list, 
 module _ (r : Round) (lent : List ℕ) where
   -- the answer, and the list
   abbrev pub Settles : Settlement → List ℕ → Type 0
-  Settles answer new = (answer ≡ settle_answer r (length lent)) × (new ≡ settle_list r lent)
+  Settles given new = record { answer : given ≡ settle_answer r (length lent); list : new ≡ settle_list r lent }
 
   pub not_held : is_held r ≡ false → Settles (Refused 17) lent
   unfolding settle_refusal settle_answer settle_list
-  not_held h = (simp h, simp h)
+  not_held h = record { answer = simp h; list = simp h }
 
   module _ (h : is_held r ≡ true) where
     pub wrong_room : (length lent ≡ results_long → ⊥) → Settles (Refused 1) lent
     unfolding settle_refusal settle_answer settle_list
-    wrong_room n = (simp (h, ne_eqb (length lent) results_long n), simp (h, ne_eqb (length lent) results_long n))
+    wrong_room n =
+        let wrong = ne_eqb (length lent) results_long n in record { answer = simp (h, wrong); list = simp (h, wrong) }
 
     pub unfinished : length lent ≡ results_long → is_finished r ≡ false → Settles (Refused 16) lent
     unfolding settle_refusal settle_answer settle_list
-    unfinished e f = (simp (h, e, f), simp (h, e, f))
+    unfinished e f = record { answer = simp (h, e, f); list = simp (h, e, f) }
 
     pub all_paid : length lent ≡ results_long → is_finished r ≡ true → (new : List ℕ) → new ≡ results r → Settles (Paid (pool r).full (pool r).paid) new
     unfolding settle_refusal settle_answer settle_list
-    all_paid e f new q = (simp (h, e, f), simp (h, e, f) q)
+    all_paid e f new q = record { answer = simp (h, e, f); list = simp (h, e, f) q }
 
 module _ (r : Round) (room : ℕ) where
   abbrev answer_by : Bool → Settlement
@@ -60,12 +61,22 @@ module _ (r : Round) (room : ℕ) where
   settle_pool_lem = by_values (settle_refusal r room) answer_by settle_pool (full_and_paid r) refl refl
 
 -- what settle promises
-pub round_promised : (r : Round) (lent : List ℕ) (answer : Settlement) (new : List ℕ) (t : Bool) → Settles r lent answer new → Decides r t
-    → (answer ≡ settle_answer r (length lent))
-    × ((settle_number answer ≡ settle_refusal r (length lent))
-    × ((settle_pool answer ≡ unless_refused (settle_refusal r (length lent)) (full_and_paid r)) × ((new ≡ settle_list r lent) × Decides r (is_held r))))
-round_promised r lent answer new t s d =
-    (s.0, (ap settle_number s.0 ∙ settle_number_lem r (length lent), (ap settle_pool s.0 ∙ settle_pool_lem r (length lent), (s.1, decided r t d))))
+pub round_promised : (r : Round) (lent : List ℕ) (given : Settlement) (new : List ℕ) (t : Bool) → Settles r lent given new → Decides r t
+    → record {
+      answer : given ≡ settle_answer r (length lent);
+      number : settle_number given ≡ settle_refusal r (length lent);
+      pool : settle_pool given ≡ unless_refused (settle_refusal r (length lent)) (full_and_paid r);
+      list : new ≡ settle_list r lent;
+      held : Decides r (is_held r);
+    }
+round_promised r lent given new t s d =
+    record {
+      answer = s.answer;
+      number = ap settle_number s.answer ∙ settle_number_lem r (length lent);
+      pool = ap settle_pool s.answer ∙ settle_pool_lem r (length lent);
+      list = s.list;
+      held = decided r t d;
+    }
 
 -- ---- a file
 
@@ -109,30 +120,43 @@ at_place_lem false number place full paid = refl
 module _ (w : Reading) (lent : List ℕ) where
   -- the answer, and the list
   abbrev pub SettlesFile : FileSettlement → List ℕ → Type 0
-  SettlesFile answer new = (answer ≡ read_answer w (length lent)) × (new ≡ read_list w lent)
+  SettlesFile given new = record { answer : given ≡ read_answer w (length lent); list : new ≡ read_list w lent }
 
   pub read_room : (length lent ≡ results_long → ⊥) → SettlesFile (RefusedFile 1 0) lent
   unfolding read_refusal read_place read_answer read_list
-  read_room n = let wrong = ne_eqb (length lent) results_long n in (simp wrong, simp wrong)
+  read_room n = let wrong = ne_eqb (length lent) results_long n in record { answer = simp wrong; list = simp wrong }
 
   module _ (e : length lent ≡ results_long) where
     pub read_refused : (w.number ≡ 0 → ⊥) → SettlesFile (RefusedFile w.number w.place) lent
     unfolding read_refusal read_place read_answer read_list
-    read_refused n = let some = ne_eqb w.number 0 n in (simp (e, some), simp (e, some))
+    read_refused n = let some = ne_eqb w.number 0 n in record { answer = simp (e, some); list = simp (e, some) }
 
     -- else it is the answer for the held round, and its list
     pub read_settled : w.number ≡ 0 → (answer : Settlement) (new : List ℕ) → Settles w.round lent answer new → SettlesFile (at_place w.place answer) new
     unfolding settle_answer settle_list read_refusal read_place read_answer read_list
     read_settled z answer new s =
         let right = eq-eqb (length lent) results_long e in
-        (simp (s.0, z, right) (at_place_lem (eqb (settle_refusal w.round (length lent)) 0) _ _ _ _), simp (z, right) s.1)
+        record {
+          answer = simp (s.answer, z, right) (at_place_lem (eqb (settle_refusal w.round (length lent)) 0) _ _ _ _);
+          list = simp (z, right) s.list;
+        }
 
 -- what settle_file and settle_prefix promise
-pub file_promised : (w : Reading) (count : ℕ) (lent : List ℕ) (answer : FileSettlement) (new : List ℕ) → w.number ≤ 15 → (w.number ≡ 0 → w.place ≡ count)
-    → SettlesFile w lent answer new
-    → (answer ≡ read_answer w (length lent))
-    × ((file_number answer ≡ read_refusal w (length lent))
-    × ((file_place answer ≡ counted_place w count (length lent)) × ((file_pool answer ≡ read_pool w (length lent)) × (new ≡ read_list w lent))))
-file_promised w count lent answer new most all s =
+pub file_promised : (w : Reading) (count : ℕ) (lent : List ℕ) (given : FileSettlement) (new : List ℕ) → w.number ≤ 15 → (w.number ≡ 0 → w.place ≡ count)
+    → SettlesFile w lent given new
+    → record {
+      answer : given ≡ read_answer w (length lent);
+      number : file_number given ≡ read_refusal w (length lent);
+      place : file_place given ≡ counted_place w count (length lent);
+      pool : file_pool given ≡ read_pool w (length lent);
+      list : new ≡ read_list w lent;
+    }
+file_promised w count lent given new most all s =
     let room = length lent in
-    (s.0, (ap file_number s.0 ∙ file_number_lem w room, (ap file_place s.0 ∙ file_place_lem w room count most all, (ap file_pool s.0 ∙ file_pool_lem w room, s.1))))
+    record {
+      answer = s.answer;
+      number = ap file_number s.answer ∙ file_number_lem w room;
+      place = ap file_place s.answer ∙ file_place_lem w room count most all;
+      pool = ap file_pool s.answer ∙ file_pool_lem w room;
+      list = s.list;
+    }

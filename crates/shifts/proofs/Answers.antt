@@ -74,16 +74,24 @@ module _ (l : List ℕ) (fit : Bool) where
       go true true = refl
 
 -- what settle_shift promises
-pub shift_promised : (l : List ℕ) (fit : Bool) (amounts answers : List ℕ) (answer : ShiftAnswer) (xs ys : List ℕ) → Settles l fit amounts answers answer xs ys
-    → (answer ≡ shift_answer l fit)
-    × ((shift_number answer ≡ shift_refusal l fit)
-    × ((answer_place answer ≡ shift_place l)
-    × ((answer_rounds answer ≡ unless_refused (shift_refusal l fit) (round_count l ∷ []))
-    × ((xs ≡ shift_list round_amounts l fit amounts) × (ys ≡ shift_list round_answer l fit answers)))))
-shift_promised l fit amounts answers answer xs ys s = (
-  s.0,
-  (ap shift_number s.0 ∙ shift_number_lem l fit, (ap answer_place s.0 ∙ shift_place_lem l fit, (ap answer_rounds s.0 ∙ shift_rounds_lem l fit, s.1))),
-)
+pub shift_promised : (l : List ℕ) (fit : Bool) (amounts answers : List ℕ) (given : ShiftAnswer) (xs ys : List ℕ) → Settles l fit amounts answers given xs ys
+    → record {
+      answer : given ≡ shift_answer l fit;
+      number : shift_number given ≡ shift_refusal l fit;
+      place : answer_place given ≡ shift_place l;
+      rounds : answer_rounds given ≡ unless_refused (shift_refusal l fit) (round_count l ∷ []);
+      amounts : xs ≡ shift_list round_amounts l fit amounts;
+      answers : ys ≡ shift_list round_answer l fit answers;
+    }
+shift_promised l fit amounts answers given xs ys s =
+    record {
+      answer = s.0;
+      number = ap shift_number s.0 ∙ shift_number_lem l fit;
+      place = ap answer_place s.0 ∙ shift_place_lem l fit;
+      rounds = ap answer_rounds s.0 ∙ shift_rounds_lem l fit;
+      amounts = s.1.0;
+      answers = s.1.1;
+    }
 
 -- A refused shift changes no list,
 pub shift_left : (give : List ℕ → List ℕ) (l : List ℕ) (fit : Bool) (lent : List ℕ) → (shift_number (shift_answer l fit) ≡ 0 → ⊥) → shift_list give l fit lent ≡ lent
