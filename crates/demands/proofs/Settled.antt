@@ -48,7 +48,7 @@ module _ (r : Round) (lent : List ℕ) where
       record { held = held.0; room = eqb-true (length lent) results_long room.0; finished = done.0; answer = simp none; list = simp none }
 
   pub settle_paid : Led r → length lent ≡ results_long → is_finished r ≡ true → (settle_answer r (length lent) ≡ Paid (pool r).full (pool r).paid) × (settle_list r lent ≡ results r)
-  settle_paid l e f = let paid = all_paid r lent (led-held r l) e f (results r) refl in (sym paid.0, sym paid.1)
+  settle_paid l e f = let paid = all_paid r lent (led-held r l) e f (results r) refl in (sym paid.answer, sym paid.list)
 
   -- a held round is refused by 1 or 16
   settle_most : is_held r ≡ true → settle_refusal r (length lent) ≤ 16

@@ -15,7 +15,7 @@ ghost use Rattle.names.specs.Lo.{answer_lo, lo_high, lo_number};
 ghost use Rattle.pool.specs.Pool.{share_answer, share_list, number_of};
 ghost use Rattle.reading.specs.File.{read_file, refused_part};
 ghost use Rattle.settlement.specs.Settle.{file_answer, file_list, file_number};
-ghost use Rattle.shifts.specs.Shift.{round_amounts, round_answer, lists_fit, shift_refusal, shift_answer, shift_list, rounds_told, place_told as shiftPlaceTold};
+ghost use Rattle.shifts.specs.Shift.{round_amounts, round_answer, lists_fit, shift_refusal, shift_answer, shift_list, rounds_told, place_told as shift_place_told};
 ghost use Rattle.ripplehatch.specs.Told.{full_told, paid_told, place_told, name_told, lo_told};
 
 use allsix::name_six_told;
@@ -110,7 +110,7 @@ pub extern "C" fn ripplehatch_settle_shift(
     ensures amounts { amounts.new ≡ shift_list round_amounts file.now (lists_fit file.now amounts.old answers.old) amounts.old }
     ensures answers { answers.new ≡ shift_list round_answer file.now (lists_fit file.now amounts.old answers.old) answers.old }
     ensures rounds { rounds.new ≡ rounds_told (shift_answer file.now (lists_fit file.now amounts.old answers.old)) rounds.old }
-    ensures place { place.new ≡ shiftPlaceTold (shift_answer file.now (lists_fit file.now amounts.old answers.old)) place.old }
+    ensures place { place.new ≡ shift_place_told (shift_answer file.now (lists_fit file.now amounts.old answers.old)) place.old }
 {
     settle_told(file, amounts, answers, rounds, place)
 }
