@@ -16,7 +16,7 @@ loop-i-preserved c =
     let l = c.loop-i in
     let bytes = c.args.bytes.now in
     let step = hexes_more bytes l.i c.loop-i-test.true in
-    (search rules, onward_more _ _ (hexes bytes) l.room l.next _ l.invariant.1 (hex_of (get_or bytes l.i 0)) _ step _ _ c.put_hex-next.ensures)
+    (search rules, onward_more _ _ (hexes bytes) l.room l.next _ l.invariant.1 (hex_of (get_or bytes l.i 0)) _ step _ _ (c.put_hex-next.ensures.place, c.put_hex-next.ensures.text))
 
 pub returns : goal.returns
 returns c =

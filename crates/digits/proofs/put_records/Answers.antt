@@ -21,7 +21,7 @@ loop-rest-preserved c =
     let rest = l.rest.now in
     let all = spelled (file_records c.args.file.now) in
     let step = spelled_more rest c.loop-rest-test.true in
-    let on = onward_more _ _ all l.room l.next _ l.invariant.1 (spelled_one (take 16 rest)) _ step _ _ c.put_record-next.ensures in
+    let on = onward_more _ _ all l.room l.next _ l.invariant.1 (spelled_one (take 16 rest)) _ step _ _ (c.put_record-next.ensures.place, c.put_record-next.ensures.text) in
     (search rules, simp rest_of on)
 
 pub returns : goal.returns
