@@ -25,7 +25,7 @@ use Rattle.led.specs.Held.{is_held}
 use Rattle.held.specs.Take.{Decides, takes}
 use Rattle.pool.specs.declared.Shared.{Shared}
 use Rattle.pool.specs.Pool.{share_answer, share_list}
-use Rattle.pool.specs.Pool.{number_of as shareNumber}
+use Rattle.pool.specs.Pool.{number_of as share_number}
 use Rattle.pool.proofs.Shares.{answer_number, refused as share-refused}
 use Rattle.amounts.specs.Base.{hand_of, win, wins}
 use Rattle.results.specs.Results.{pool, results_long, results}
@@ -74,7 +74,7 @@ pub demand_1_prefix : (first : List ℕ) (after : ℕ) (lent : List ℕ) → (fi
 demand_1_prefix first after lent = read_left (read_prefix first after) lent
 
 -- of a pool;
-pub demand_1_pool : (won : List ℕ) (most : ℕ) (lent : List ℕ) → (shareNumber (share_answer won most (length lent)) ≡ 0 → ⊥) → share_list won most lent ≡ lent
+pub demand_1_pool : (won : List ℕ) (most : ℕ) (lent : List ℕ) → (share_number (share_answer won most (length lent)) ≡ 0 → ⊥) → share_list won most lent ≡ lent
 demand_1_pool won most lent n = share-refused won most lent (λ e. n (answer_number won most (length lent) ∙ e))
 
 -- and a refused writing no byte of the room: of a held round,

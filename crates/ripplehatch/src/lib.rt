@@ -1,6 +1,6 @@
-// The settler for a pad that is written in C or in Rust: functions on numbers and slices, exported under names that begin with the product's.
+// The settler for a pad that is written in C or in Rust: functions on numbers and slices, under names that begin with the product's.
 //
-// ripplehatch.h declares them. Each answers a refusal's number, or 0, and tells the rest in what the caller lends; what is not told is left as it was,
+// ripplehatch.h declares them, and crate ripplehatch_c exports each. Each answers a refusal's number, or 0, and tells the rest in what the caller lends; what is not told is left as it was,
 // so a refusal changes nothing that was lent but the place. None has a `requires`.
 
 #![tactic(auto)]
@@ -56,8 +56,7 @@ fn place_told(answer: FileSettlement, was: usize) -> usize
 
 // Settles a file into a list of 35 numbers. Answers 0 and tells the pool in dollars, full and as paid; or answers the refusal's number and tells its
 // place.
-#[unsafe(no_mangle)]
-pub extern "C" fn ripplehatch_settle_file(
+pub fn ripplehatch_settle_file(
     file: &[u8],
     results: &mut [u64],
     full: &mut u64,
@@ -78,8 +77,7 @@ pub extern "C" fn ripplehatch_settle_file(
 }
 
 // The byte of the file at which its refused part begins, and how long it is: 16 for a refused record, the odd bytes for 2, else 0, at the end.
-#[unsafe(no_mangle)]
-pub extern "C" fn ripplehatch_refused_part(file: &[u8], long: &mut usize) -> usize
+pub fn ripplehatch_refused_part(file: &[u8], long: &mut usize) -> usize
     ensures begins { result ≡ 16 * (read_file file.now).place }
     ensures long { long.new ≡ length (refused_part file.now) }
 {
@@ -89,8 +87,7 @@ pub extern "C" fn ripplehatch_refused_part(file: &[u8], long: &mut usize) -> usi
 }
 
 // How many rounds a shift has: it is lent 35 amounts and two numbers for each.
-#[unsafe(no_mangle)]
-pub extern "C" fn ripplehatch_count_rounds(file: &[u8]) -> usize
+pub fn ripplehatch_count_rounds(file: &[u8]) -> usize
     ensures { result ≡ round_count file.now }
 {
     count_rounds(file)
@@ -98,8 +95,7 @@ pub extern "C" fn ripplehatch_count_rounds(file: &[u8]) -> usize
 
 // Settles a shift into a list of 35 numbers a round and one of two numbers a round, its refusal's number and place. Answers 0 and tells how many rounds there are; or answers 2 or 1
 // and tells its place.
-#[unsafe(no_mangle)]
-pub extern "C" fn ripplehatch_settle_shift(
+pub fn ripplehatch_settle_shift(
     file: &[u8],
     amounts: &mut [u64],
     answers: &mut [u64],
@@ -117,8 +113,7 @@ pub extern "C" fn ripplehatch_settle_shift(
 
 // Answers one record to a round that is held as the file of it. Answers 0 where the record is accepted, and tells whether the round is then finished, 1 or
 // 0; or answers the refusal's number, 17 where the held bytes are no file of accepted records.
-#[unsafe(no_mangle)]
-pub extern "C" fn ripplehatch_take(held: &[u8], bytes: &[u8], finished: &mut u8) -> u8
+pub fn ripplehatch_take(held: &[u8], bytes: &[u8], finished: &mut u8) -> u8
     ensures number { result ≡ file_take_refusal held.now bytes.now }
     ensures finished { finished.new ≡ finished_told (file_takes held.now bytes.now) finished.old }
 {
@@ -126,8 +121,7 @@ pub extern "C" fn ripplehatch_take(held: &[u8], bytes: &[u8], finished: &mut u8)
 }
 
 // Writes a held file in the writer's order into a room as long. Answers 0, or 17, 16 or 1.
-#[unsafe(no_mangle)]
-pub extern "C" fn ripplehatch_write(held: &[u8], room: &mut [u8]) -> u8
+pub fn ripplehatch_write(held: &[u8], room: &mut [u8]) -> u8
     ensures number { result ≡ rewrite_refusal held.now (length room.old) }
     ensures list { room.new ≡ rewrite_list held.now room.old }
 {
@@ -153,8 +147,7 @@ fn name_told(answer: FiveAnswer, was: usize) -> usize
 }
 
 // Names five cards. Answers 0 and tells the name's place in the list of names, 0 for a royal flush to 10 for other; or answers 18 or 11.
-#[unsafe(no_mangle)]
-pub extern "C" fn ripplehatch_name_five(cards: &[u8], name: &mut usize) -> u8
+pub fn ripplehatch_name_five(cards: &[u8], name: &mut usize) -> u8
     ensures number { result ≡ five_number (answer_five cards.now) }
     ensures name { name.new ≡ name_told (answer_five cards.now) name.old }
 {
@@ -191,8 +184,7 @@ fn lo_told(answer: LoAnswer, was: usize) -> usize
 }
 
 // Names five cards for Lo Ball. Answers 0 and tells the high rank, 0 for a two to 12 for an ace, or 13 for nothing; or answers 18 or 11.
-#[unsafe(no_mangle)]
-pub extern "C" fn ripplehatch_name_lo(cards: &[u8], high: &mut usize) -> u8
+pub fn ripplehatch_name_lo(cards: &[u8], high: &mut usize) -> u8
     ensures number { result ≡ lo_number (answer_lo cards.now) }
     ensures high { high.new ≡ lo_told (answer_lo cards.now) high.old }
 {
@@ -203,8 +195,7 @@ pub extern "C" fn ripplehatch_name_lo(cards: &[u8], high: &mut usize) -> u8
 
 // Names six cards for All-Six. Answers 0 and tells the name's place: 0 for nine to ace of diamonds, 1 for nine to ace of another suit, 2 for a royal flush to 12 for
 // other; or answers 18 or 11.
-#[unsafe(no_mangle)]
-pub extern "C" fn ripplehatch_name_six(cards: &[u8], name: &mut usize) -> u8
+pub fn ripplehatch_name_six(cards: &[u8], name: &mut usize) -> u8
     ensures number { result ≡ hand_refusal 6 cards.now }
     ensures name { name.new ≡ six_told (answer_six cards.now) name.old }
 {
@@ -222,8 +213,7 @@ fn share_number(answer: Shared) -> u8
 }
 
 // Shares a maximum among up to seven wins, into a list as long: in full, or to exactly the maximum. Answers 0, or 19 or 20.
-#[unsafe(no_mangle)]
-pub extern "C" fn ripplehatch_share(wins: &[u64], maximum: u64, shares: &mut [u64]) -> u8
+pub fn ripplehatch_share(wins: &[u64], maximum: u64, shares: &mut [u64]) -> u8
     ensures number { result ≡ number_of (share_answer wins.now maximum (length shares.old)) }
     ensures list { shares.new ≡ share_list wins.now maximum shares.old }
 {
