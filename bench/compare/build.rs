@@ -1,4 +1,4 @@
-//! Links the proved library, which `rt staticlib ripplehatch` writes.
+//! Links the proved library, which bench/library writes.
 
 fn main() {
     let root = std::env::var("CARGO_MANIFEST_DIR").unwrap_or_default();

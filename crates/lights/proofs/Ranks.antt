@@ -1,9 +1,9 @@
 -- A card against some ranks, both in words: whether they have a digit in common.
 -- Assumes nothing.
-use Prim.Native.Nat.{ℕ, ◌*◌, ◌<◌}
-use mathlib.Core.Path.{◌≡◌, refl, ap, ap₂, subst, sym, ◌∙◌}
+use Prim.Native.Nat.{ℕ, ◌*◌}
+use mathlib.Core.Path.{◌≡◌, refl, ap, ap₂, sym, ◌∙◌}
 use mathlib.Core.Bool.{Bool, true, false, not, ◌&&◌}
-use mathlib.Core.List.{List, [], ◌∷◌}
+use mathlib.Core.List.{[], ◌∷◌}
 use lib.Bits.{bit_and}
 use native.Mathlib.Omega.{arith}
 use lib.Dec.{eqb, ltb}
@@ -15,7 +15,7 @@ use Rattle.counting.proofs.Tests.{and_true, both, same_true, one_le}
 use Rattle.cards.specs.Card.{rank}
 use Rattle.hands.specs.Hand.{of_rank}
 use Rattle.words.specs.Word.{word, digits}
-use Rattle.words.proofs.Digits.{Small, digits_and, digits_same, some_digit}
+use Rattle.words.proofs.Digits.{digits_and, digits_same, some_digit}
 use Rattle.words.proofs.Cards.{alone}
 
 and_one : (a b : Bool) → bit_and (one a) (one b) ≡ one (a && b)

@@ -1,7 +1,7 @@
 -- The deal and the amounts of a round in which All-Six isn't offered are what they were, and nothing is handed back on All-Six.
 -- Assumes nothing.
 use Prim.Native.Nat.{ℕ, ◌+◌, ◌*◌}
-use mathlib.Core.Path.{◌≡◌, refl, ap}
+use mathlib.Core.Path.{◌≡◌, ap}
 use mathlib.Core.List.{List, [], ◌∷◌}
 use native.Mathlib.Omega.{arith}
 use Rattle.counting.specs.Count.{gather}

@@ -17,8 +17,8 @@ use Rattle.seating.specs.declared.Table.{Table}
 use Rattle.seating.specs.declared.Wagers.{Wagers}
 use Rattle.seating.specs.Table.{tables_fit, table_of, table_refusal}
 use Rattle.seating.specs.Seat.{most_six, sides_fit, seat_refusal, with_seat}
-use Rattle.dealing.specs.Part.{part_refusal, with_part}
-use Rattle.choosing.specs.Choice.{choice_refusal, with_choice}
+use Rattle.dealing.specs.Part.{with_part}
+use Rattle.choosing.specs.Choice.{with_choice}
 use Rattle.round.specs.declared.Round.{Round}
 use Rattle.round.specs.Order.{is_finished, may_come}
 use Rattle.round.specs.Feed.{kind_refusal, refusal, with_table, with_wagers, with_deck, with_play, next, refused, accepted, feed, number_of}

@@ -5,8 +5,8 @@ use Prim.Native.Nat.{ℕ, ◌≤◌}
 use mathlib.Core.Path.{◌≡◌, refl, ap, ◌∙◌}
 use mathlib.Core.Bool.{Bool, true, false, not}
 use mathlib.Core.List.{List}
-use lib.Dec.{eqb, leb}
-use borrow.Author.Tests.{eqb-true, eq-eqb, leb-true}
+use lib.Dec.{leb}
+use borrow.Author.Tests.{eq-eqb, leb-true}
 use Rattle.counting.specs.Choose.{if◌then◌else◌}
 use Rattle.counting.proofs.Answers.{by_number}
 use Rattle.seating.specs.Table.{table_refusal}

@@ -1,7 +1,6 @@
 use mathlib.Core.Path.{refl, ap₂, ◌∙◌}
 use mathlib.Core.List.{[], ◌∷◌}
 use native.Mathlib.Omega.{arith}
-use borrow.Author.Rules.{rules}
 use Rattle.allsix.specs.Six.{without, higher, best_up_to}
 use Rattle.allsix.proofs.Choices.{six_words, others_named}
 -- the sum of all six is within bounds, and so are those on the way to it

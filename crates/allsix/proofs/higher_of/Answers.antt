@@ -1,6 +1,5 @@
 use native.Mathlib.Omega.{arith}
 use borrow.Author.Tests.{le-leb, lt-leb}
-use borrow.Author.Rules.{rules}
 use Rattle.names.specs.Five.{five_place}
 use Rattle.allsix.specs.Six.{higher}
 use Rattle.allsix.proofs.higher_of.Goals as goal

@@ -1,5 +1,4 @@
 use mathlib.Core.Path.{sym, ◌∙◌}
-use borrow.Author.Rules.{rules}
 use Rattle.allsix.specs.Six.{six_royal}
 use Rattle.allsix.proofs.is_six_royal.Goals as goal
 

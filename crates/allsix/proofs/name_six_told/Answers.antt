@@ -1,5 +1,4 @@
 use mathlib.Core.Path.{refl}
-use borrow.Author.Rules.{rules}
 use Rattle.allsix.proofs.name_six_told.Goals as goal
 
 pub returns : goal.returns

@@ -1,6 +1,5 @@
 use mathlib.Core.Path.{sym, ◌∙◌}
 use borrow.Author.Tests.{eq-eqb, ne_eqb}
-use borrow.Author.Rules.{rules}
 use Rattle.allsix.specs.Six.{name_six}
 use Rattle.allsix.proofs.six_by_word.Goals as goal
 

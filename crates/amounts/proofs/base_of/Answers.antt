@@ -1,7 +1,5 @@
 use mathlib.Core.Path.{sym, ◌∙◌}
-use borrow.Author.Tests.{not-true, not-false}
 use Rattle.amounts.specs.Base.{base_pay_of, pooled, win, kept}
-use borrow.Author.Rules.{rules}
 use Rattle.amounts.proofs.base_of.Goals as goal
 
 pub returns-then-not-is_in : goal.returns-then-not-is_in

@@ -1,5 +1,4 @@
 use Rattle.amounts.specs.Base.{base_wager}
-use borrow.Author.Rules.{rules}
 use Rattle.amounts.proofs.base_wager.Goals as goal
 
 pub returns : goal.returns

@@ -1,10 +1,9 @@
 use lib.ListN.{replicate}
-use Prim.Native.Nat.{◌≤◌, ◌-◌}
 use mathlib.Core.Path.{refl, ap}
 use native.Mathlib.Omega.{arith}
 use Rattle.amounts.specs.declared.Base.{Base}
 use Rattle.amounts.specs.Base.{win, kept, wins}
-use Rattle.counting.proofs.Fills.{Each, each_none, each_more, each_all}
+use Rattle.counting.proofs.Fills.{each_none, each_more, each_all}
 use borrow.Author.Rules.{rules}
 use Rattle.amounts.proofs.bases_of.Goals as goal
 

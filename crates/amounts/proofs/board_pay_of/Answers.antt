@@ -1,4 +1,3 @@
-use borrow.Author.Rules.{rules}
 use Rattle.holding.specs.Deal.{community}
 use Rattle.amounts.specs.Sides.{board_pay_of}
 use Rattle.amounts.proofs.board_pay_of.Goals as goal

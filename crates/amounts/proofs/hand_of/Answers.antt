@@ -1,6 +1,5 @@
 use Rattle.holding.specs.Deal.{hole, community, five}
 use Rattle.amounts.specs.Base.{hand_of}
-use borrow.Author.Rules.{rules}
 use Rattle.amounts.proofs.hand_of.Goals as goal
 
 pub returns : goal.returns

@@ -2,7 +2,6 @@ use mathlib.Core.Path.{sym, ◌∙◌}
 use Rattle.pays.proofs.Amounts.{nothing_back}
 use Rattle.holding.specs.Deal.{hole, community, five}
 use Rattle.amounts.specs.Sides.{lo_pay_of, lo_amount}
-use borrow.Author.Rules.{rules}
 use Rattle.amounts.proofs.lo_amount.Goals as goal
 
 pub returns-then-wager-eq0 : goal.returns-then-wager-eq0

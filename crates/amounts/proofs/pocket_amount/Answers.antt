@@ -1,5 +1,4 @@
 use mathlib.Core.Path.{sym, ◌∙◌}
-use borrow.Author.Rules.{rules}
 use Rattle.pays.proofs.Amounts.{nothing_back}
 use Rattle.holding.specs.Deal.{hole}
 use Rattle.amounts.specs.Sides.{pocket_pay_of, pocket_amount}

@@ -2,7 +2,6 @@ use mathlib.Core.Path.{sym, ◌∙◌}
 use Rattle.pays.proofs.Amounts.{nothing_back}
 use Rattle.holding.specs.Deal.{hole, community, six_card, six_hand}
 use Rattle.amounts.specs.Sides.{six_pay_of, six_amount}
-use borrow.Author.Rules.{rules}
 use Rattle.amounts.proofs.six_amount.Goals as goal
 
 pub returns-then-wager-eq0 : goal.returns-then-wager-eq0

@@ -1,6 +1,5 @@
 use borrow.Author.Tests.{ne_eqb}
 use Rattle.by_hand.specs.Changes.{changed}
-use borrow.Author.Rules.{rules}
 use Rattle.by_hand.proofs.changed.Goals as goal
 
 pub returns-in-99 : goal.returns-in-99

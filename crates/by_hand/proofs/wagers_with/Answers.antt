@@ -1,6 +1,5 @@
 use borrow.Author.Tests.{eq-eqb, ne_eqb}
 use Rattle.by_hand.specs.Changes.{wagers_with}
-use borrow.Author.Rules.{rules}
 use Rattle.by_hand.proofs.wagers_with.Goals as goal
 
 pub returns-then-list-eq0 : goal.returns-then-list-eq0

@@ -1,4 +1,3 @@
-use borrow.Author.Rules.{rules}
 use Rattle.by_hand.proofs.with_wager.Goals as goal
 
 pub returns : goal.returns

@@ -1,10 +1,8 @@
-use Prim.Native.Nat.{◌≤◌, ◌<◌, ◌-◌}
-use mathlib.Core.Path.{◌≡◌, refl, sym, ◌∙◌}
+use Prim.Native.Nat.{◌≤◌, ◌<◌}
+use mathlib.Core.Path.{refl, sym, ◌∙◌}
 use native.Mathlib.Omega.{arith}
-use lib.ListN.{length, drop, get_or}
+use lib.ListN.{get_or}
 use borrow.Author.Tests.{le-leb, lt-leb}
-use borrow.Author.Rules.{rules}
-use Rattle.counting.specs.Count.{every_of}
 use Rattle.counting.proofs.Lists.{every_of_step, every_of_end}
 use Rattle.cards.specs.Card.{is_card}
 use Rattle.cards.proofs.are_cards_from.Goals as goal

@@ -1,15 +1,10 @@
 -- Outer loop: none of the places from `from` to below i repeats an earlier one. Inner loop: besides, place i differs from each place below j.
-use Prim.Native.Nat.{◌≤◌, ◌<◌, ◌-◌}
-use mathlib.Core.Path.{◌≡◌, refl, sym, ◌∙◌}
-use mathlib.Core.Bool.{false}
+use mathlib.Core.Path.{refl, sym, ◌∙◌}
 use native.Mathlib.Omega.{arith}
-use lib.ListN.{length}
 use borrow.Author.Tests.{eq-eqb, ne_eqb}
-use borrow.Author.Rules.{rules}
-use Rattle.counting.specs.Count.{some_below}
 use Rattle.counting.proofs.Ranges.{some_none, some_more, some_done, some_here}
-use Rattle.cards.specs.Deck.{same_at, repeated_at}
-use Rattle.cards.proofs.Repeats.{NewTo, new_more, all_new, repeat_here}
+use Rattle.cards.specs.Deck.{repeated_at}
+use Rattle.cards.proofs.Repeats.{new_more, all_new, repeat_here}
 use Rattle.cards.proofs.has_repeat_from.Goals as goal
 
 pub places-init : goal.places-init

@@ -1,6 +1,5 @@
 use mathlib.Core.Path.{sym, ◌∙◌}
 use Rattle.cards.proofs.Decks.{faulty_whole}
-use borrow.Author.Rules.{rules}
 use Rattle.cards.proofs.is_faulty.Goals as goal
 
 pub returns : goal.returns

@@ -1,5 +1,4 @@
 use Rattle.cards.specs.Deck.{faulty_from}
-use borrow.Author.Rules.{rules}
 use Rattle.cards.proofs.is_faulty_from.Goals as goal
 
 pub returns : goal.returns

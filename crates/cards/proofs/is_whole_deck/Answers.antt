@@ -1,4 +1,3 @@
-use borrow.Author.Rules.{rules}
 use Rattle.cards.specs.Deck.{whole_deck}
 use Rattle.cards.proofs.is_whole_deck.Goals as goal
 

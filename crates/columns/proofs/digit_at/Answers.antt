@@ -1,7 +1,6 @@
 use mathlib.Core.Path.{sym, ◌∙◌}
 use Rattle.records.proofs.Betweens.{between_true}
 use Rattle.columns.specs.Columns.{digit_at}
-use borrow.Author.Rules.{rules}
 use Rattle.columns.proofs.digit_at.Goals as goal
 
 pub overflow_sub-result : goal.overflow_sub-result

@@ -1,9 +1,5 @@
-use mathlib.Core.Path.{◌≡◌, refl, ◌∙◌}
-use Prim.Native.Nat.{◌-◌}
-use lib.ListN.{length}
-use Rattle.columns.specs.Columns.{line_end}
+use mathlib.Core.Path.{refl, ◌∙◌}
 use Rattle.columns.proofs.Lines.{line_here, line_more, line_over}
-use borrow.Author.Rules.{rules}
 use Rattle.columns.proofs.line_end.Goals as goal
 
 pub loop-i-init : goal.loop-i-init

@@ -1,9 +1,7 @@
-use mathlib.Core.Path.{◌≡◌, refl, ◌∙◌}
+use mathlib.Core.Path.{◌≡◌}
 use Prim.Native.Nat.{◌-◌}
 use lib.ListN.{length}
 use Rattle.columns.specs.Columns.{line_end}
-use Rattle.columns.proofs.Lines.{line_here, line_more, line_over}
-use borrow.Author.Rules.{rules}
 use Rattle.columns.proofs.line_end.Given as goal
 
 abbrev pub invariant-loop-i : goal.invariant-loop-i

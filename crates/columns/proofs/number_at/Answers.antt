@@ -1,5 +1,4 @@
 use Rattle.columns.specs.Columns.{number_at}
-use borrow.Author.Rules.{rules}
 use Rattle.columns.proofs.number_at.Goals as goal
 
 pub returns : goal.returns

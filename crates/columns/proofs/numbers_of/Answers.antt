@@ -1,8 +1,7 @@
-use Prim.Native.Nat.{◌≤◌, ◌<◌, ◌-◌}
-use mathlib.Core.Path.{◌≡◌}
+use Prim.Native.Nat.{◌<◌}
 use lib.ListN.{length}
 use native.Mathlib.Omega.{arith}
-use Rattle.columns.proofs.Read.{Read, read_more}
+use Rattle.columns.proofs.Read.{read_more}
 use borrow.Author.Rules.{rules}
 use Rattle.columns.proofs.numbers_of.Goals as goal
 

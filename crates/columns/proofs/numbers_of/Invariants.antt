@@ -1,9 +1,7 @@
-use Prim.Native.Nat.{◌≤◌, ◌<◌, ◌-◌}
+use Prim.Native.Nat.{◌≤◌, ◌-◌}
 use mathlib.Core.Path.{◌≡◌}
 use lib.ListN.{length}
-use native.Mathlib.Omega.{arith}
-use Rattle.columns.proofs.Read.{Read, read_more}
-use borrow.Author.Rules.{rules}
+use Rattle.columns.proofs.Read.{Read}
 use Rattle.columns.proofs.numbers_of.Given as goal
 
 abbrev pub invariant-loop-k : goal.invariant-loop-k

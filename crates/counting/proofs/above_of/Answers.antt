@@ -1,10 +1,9 @@
-use Prim.Native.Nat.{ℕ, ◌-◌}
+use Prim.Native.Nat.{ℕ}
 use mathlib.Core.Bool.{Bool}
 use native.Mathlib.Omega.{arith}
 use lib.Dec.{ltb}
-use lib.ListN.{length, get_or}
-use borrow.Author.Rules.{rules}
-use Rattle.counting.proofs.Ranges.{Tallied, tally-none, tally_step, tally-done}
+use lib.ListN.{get_or}
+use Rattle.counting.proofs.Ranges.{tally-none, tally_step, tally-done}
 use Rattle.counting.specs.Count.{above}
 use Rattle.counting.proofs.above_of.Goals as goal
 

@@ -1,11 +1,7 @@
-use Prim.Native.Nat.{ℕ, ◌-◌}
-use mathlib.Core.Bool.{Bool}
-use native.Mathlib.Omega.{arith}
+use Prim.Native.Nat.{◌-◌}
 use lib.Dec.{ltb}
 use lib.ListN.{length, get_or}
-use borrow.Author.Rules.{rules}
-use Rattle.counting.proofs.Ranges.{Tallied, tally-none, tally_step, tally-done}
-use Rattle.counting.specs.Count.{above}
+use Rattle.counting.proofs.Ranges.{Tallied}
 use Rattle.counting.proofs.above_of.Given as goal
 
 abbrev pub invariant-loop-j : goal.invariant-loop-j

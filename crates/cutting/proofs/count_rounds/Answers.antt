@@ -1,11 +1,7 @@
-use Prim.Native.Nat.{◌≤◌, ◌+◌}
-use mathlib.Core.Path.{◌≡◌}
 use native.Mathlib.Omega.{arith}
-use lib.ListN.{length, length-drop}
+use lib.ListN.{length-drop}
 use Rattle.reading.proofs.Records.{rest_of}
-use Rattle.cutting.specs.Rounds.{round_count}
 use Rattle.cutting.proofs.Cuts.{first-cut, count_more, count_all}
-use borrow.Author.Rules.{rules}
 use Rattle.cutting.proofs.count_rounds.Goals as goal
 
 pub loop-rest-init : goal.loop-rest-init

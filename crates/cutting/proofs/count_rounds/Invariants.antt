@@ -1,11 +1,7 @@
 use Prim.Native.Nat.{◌≤◌, ◌+◌}
 use mathlib.Core.Path.{◌≡◌}
-use native.Mathlib.Omega.{arith}
-use lib.ListN.{length, length-drop}
-use Rattle.reading.proofs.Records.{rest_of}
+use lib.ListN.{length}
 use Rattle.cutting.specs.Rounds.{round_count}
-use Rattle.cutting.proofs.Cuts.{first-cut, count_more, count_all}
-use borrow.Author.Rules.{rules}
 use Rattle.cutting.proofs.count_rounds.Given as goal
 
 abbrev pub invariant-loop-rest : goal.invariant-loop-rest

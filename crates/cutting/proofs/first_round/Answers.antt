@@ -1,8 +1,5 @@
-use Prim.Native.Nat.{◌≤◌, ◌-◌}
 use native.Mathlib.Omega.{arith}
-use lib.ListN.{length}
-use Rattle.cutting.proofs.Cuts.{Open, none_first, open_start, open_more, open_ends, open_last, ends_first}
-use borrow.Author.Rules.{rules}
+use Rattle.cutting.proofs.Cuts.{none_first, open_start, open_more, open_ends, open_last, ends_first}
 use Rattle.cutting.proofs.first_round.Goals as goal
 
 pub returns-then-file-lt16 : goal.returns-then-file-lt16

@@ -1,8 +1,6 @@
 use Prim.Native.Nat.{◌≤◌, ◌-◌}
-use native.Mathlib.Omega.{arith}
 use lib.ListN.{length}
-use Rattle.cutting.proofs.Cuts.{Open, none_first, open_start, open_more, open_ends, open_last, ends_first}
-use borrow.Author.Rules.{rules}
+use Rattle.cutting.proofs.Cuts.{Open}
 use Rattle.cutting.proofs.first_round.Given as goal
 
 abbrev pub invariant-loop-at : goal.invariant-loop-at

@@ -1,6 +1,5 @@
-use Prim.Native.Nat.{◌≤◌, ◌+◌, ◌-◌}
-use mathlib.Core.Path.{◌≡◌, refl, sym, ap, ◌∙◌}
-use lib.Seq.{slice, sets}
+use mathlib.Core.Path.{refl, sym, ap, ◌∙◌}
+use lib.Seq.{sets}
 use Rattle.dealing.proofs.Cards.{cards_more, cards_end, cards_short}
 use borrow.Author.Rules.{rules}
 use Rattle.dealing.proofs.put_cards.Goals as goal

@@ -1,8 +1,6 @@
 use Prim.Native.Nat.{◌≤◌, ◌+◌, ◌-◌}
-use mathlib.Core.Path.{◌≡◌, refl, sym, ap, ◌∙◌}
+use mathlib.Core.Path.{◌≡◌}
 use lib.Seq.{slice, sets}
-use Rattle.dealing.proofs.Cards.{cards_more, cards_end, cards_short}
-use borrow.Author.Rules.{rules}
 use Rattle.dealing.proofs.put_cards.Given as goal
 
 abbrev pub invariant-loop-k : goal.invariant-loop-k

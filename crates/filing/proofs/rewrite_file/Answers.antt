@@ -1,5 +1,4 @@
 use Rattle.filing.proofs.Answers.{rewrite_no_file, rewrite_round}
-use borrow.Author.Rules.{rules}
 use Rattle.filing.proofs.rewrite_file.Goals as goal
 
 pub returns-then-reading-ne0 : goal.returns-then-reading-ne0

@@ -1,5 +1,4 @@
 use Rattle.filing.proofs.Answers.{take_no_file, take_fed}
-use borrow.Author.Rules.{rules}
 use Rattle.filing.proofs.take_to_file.Goals as goal
 
 pub returns-then-reading-ne0 : goal.returns-then-reading-ne0

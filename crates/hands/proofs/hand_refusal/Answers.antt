@@ -1,6 +1,5 @@
 use mathlib.Core.Path.{sym, ◌∙◌}
 use borrow.Author.Tests.{eq-eqb, ne_eqb}
-use borrow.Author.Rules.{rules}
 use Rattle.hands.specs.Hand.{hand_refusal}
 use Rattle.hands.proofs.hand_refusal.Goals as goal
 

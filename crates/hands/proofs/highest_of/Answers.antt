@@ -1,8 +1,5 @@
-use Prim.Native.Nat.{◌≤◌}
-use mathlib.Core.Path.{◌≡◌, refl, sym, ◌∙◌}
+use mathlib.Core.Path.{refl, sym, ◌∙◌}
 use native.Mathlib.Omega.{arith}
-use borrow.Author.Rules.{rules}
-use Rattle.hands.specs.Hand.{of_rank, highest}
 use Rattle.hands.proofs.Highest.{highest_here, highest_below, highest-none}
 use Rattle.hands.proofs.highest_of.Goals as goal
 

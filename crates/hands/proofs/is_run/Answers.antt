@@ -1,12 +1,8 @@
-use Prim.Native.Nat.{◌+◌, ◌≤◌, ◌-◌}
-use mathlib.Core.Path.{◌≡◌, sym}
-use mathlib.Core.Bool.{true}
-use lib.Dec.{leb}
+use mathlib.Core.Path.{sym}
 use borrow.Author.Tests.{le-leb, lt-leb}
 use borrow.Author.Rules.{rules}
-use Rattle.counting.specs.Count.{every_below}
 use Rattle.counting.proofs.Ranges.{every_none, every_more, every_done, every_broken}
-use Rattle.hands.specs.Hand.{of_rank, rank_on, run}
+use Rattle.hands.specs.Hand.{run}
 use Rattle.hands.proofs.is_run.Goals as goal
 
 pub loop-i-init : goal.loop-i-init

@@ -1,12 +1,9 @@
 use Prim.Native.Nat.{◌+◌, ◌≤◌, ◌-◌}
-use mathlib.Core.Path.{◌≡◌, sym}
+use mathlib.Core.Path.{◌≡◌}
 use mathlib.Core.Bool.{true}
 use lib.Dec.{leb}
-use borrow.Author.Tests.{le-leb, lt-leb}
-use borrow.Author.Rules.{rules}
 use Rattle.counting.specs.Count.{every_below}
-use Rattle.counting.proofs.Ranges.{every_none, every_more, every_done, every_broken}
-use Rattle.hands.specs.Hand.{of_rank, rank_on, run}
+use Rattle.hands.specs.Hand.{of_rank, rank_on}
 use Rattle.hands.proofs.is_run.Given as goal
 
 abbrev pub invariant-loop-i : goal.invariant-loop-i

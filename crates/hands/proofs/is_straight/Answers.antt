@@ -1,11 +1,9 @@
-use Prim.Native.Nat.{◌+◌, ◌≤◌, ◌<◌, ◌-◌}
-use mathlib.Core.Path.{◌≡◌, sym, ◌∙◌}
-use mathlib.Core.Bool.{false}
+use Prim.Native.Nat.{◌≤◌, ◌<◌, ◌-◌}
+use mathlib.Core.Path.{sym, ◌∙◌}
 use native.Mathlib.Omega.{arith}
 use borrow.Author.Rules.{rules}
-use Rattle.counting.specs.Count.{some_below}
 use Rattle.counting.proofs.Ranges.{some_none, some_more, some_done, some_here}
-use Rattle.hands.specs.Hand.{of_rank, run, straight}
+use Rattle.hands.specs.Hand.{straight}
 use Rattle.hands.proofs.is_straight.Goals as goal
 
 pub loop-i-init : goal.loop-i-init

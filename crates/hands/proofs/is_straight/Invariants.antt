@@ -1,11 +1,8 @@
-use Prim.Native.Nat.{◌+◌, ◌≤◌, ◌<◌, ◌-◌}
-use mathlib.Core.Path.{◌≡◌, sym, ◌∙◌}
+use Prim.Native.Nat.{◌+◌, ◌≤◌, ◌-◌}
+use mathlib.Core.Path.{◌≡◌}
 use mathlib.Core.Bool.{false}
-use native.Mathlib.Omega.{arith}
-use borrow.Author.Rules.{rules}
 use Rattle.counting.specs.Count.{some_below}
-use Rattle.counting.proofs.Ranges.{some_none, some_more, some_done, some_here}
-use Rattle.hands.specs.Hand.{of_rank, run, straight}
+use Rattle.hands.specs.Hand.{of_rank, run}
 use Rattle.hands.proofs.is_straight.Given as goal
 
 abbrev pub invariant-loop-i : goal.invariant-loop-i

@@ -1,12 +1,6 @@
-use Prim.Native.Nat.{◌-◌}
 use mathlib.Core.Path.{sym, ◌∙◌}
-use mathlib.Core.Logic.{⊎_elim}
-use lib.Dec.{eqb}
-use lib.ListN.{length}
 use borrow.Author.Tests.{eq-eqb, ne_eqb}
-use borrow.Author.Rules.{rules}
-use Rattle.counting.proofs.Lists.{Counted, count_hit, count_miss, count-done}
-use Rattle.cards.specs.Card.{rank}
+use Rattle.counting.proofs.Lists.{count_hit, count_miss, count-done}
 use Rattle.hands.specs.Hand.{of_rank}
 use Rattle.hands.proofs.of_rank.Goals as goal
 use Rattle.hands.proofs.of_rank.Goals.{then-rank_of-r, else-rank_of-r}

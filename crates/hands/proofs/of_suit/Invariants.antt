@@ -1,13 +1,8 @@
 use Prim.Native.Nat.{◌-◌}
-use mathlib.Core.Path.{sym, ◌∙◌}
-use mathlib.Core.Logic.{⊎_elim}
 use lib.Dec.{eqb}
 use lib.ListN.{length}
-use borrow.Author.Tests.{eq-eqb, ne_eqb}
-use borrow.Author.Rules.{rules}
-use Rattle.counting.proofs.Lists.{Counted, count_hit, count_miss, count-done}
+use Rattle.counting.proofs.Lists.{Counted}
 use Rattle.cards.specs.Card.{suit}
-use Rattle.hands.specs.Hand.{of_suit}
 use Rattle.hands.proofs.of_suit.Given as goal
 
 abbrev pub invariant-loop-i : goal.invariant-loop-i

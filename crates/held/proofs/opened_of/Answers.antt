@@ -1,7 +1,6 @@
 use native.Mathlib.Omega.{arith}
 use borrow.Author.Tests.{eq-eqb, ne_eqb}
 use Rattle.choosing.proofs.Street.{streets_le}
-use borrow.Author.Rules.{rules}
 use Rattle.held.proofs.opened_of.Goals as goal
 
 pub overflow_add-result : goal.overflow_add-result

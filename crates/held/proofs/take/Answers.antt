@@ -1,6 +1,4 @@
-use borrow.Author.Tests.{not-true, not-false}
 use Rattle.held.proofs.Answers.{taken, taken_not, promised}
-use borrow.Author.Rules.{rules}
 use Rattle.held.proofs.take.Goals as goal
 
 pub returns-then-not-is_held : goal.returns-then-not-is_held

@@ -1,6 +1,5 @@
 use borrow.Author.Tests.{eq-eqb, ne_eqb}
 use Rattle.holding.specs.Deal.{community_at}
-use borrow.Author.Rules.{rules}
 use Rattle.holding.proofs.community_at.Goals as goal
 
 pub returns-then-offer-eq0 : goal.returns-then-offer-eq0

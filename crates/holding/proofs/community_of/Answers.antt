@@ -1,5 +1,4 @@
 use Rattle.holding.specs.Deal.{community}
-use borrow.Author.Rules.{rules}
 use Rattle.holding.proofs.community_of.Goals as goal
 
 pub returns : goal.returns

@@ -1,5 +1,4 @@
 use Rattle.holding.specs.Deal.{hole, community, five}
-use borrow.Author.Rules.{rules}
 use Rattle.holding.proofs.five_of.Goals as goal
 
 pub returns : goal.returns

@@ -1,7 +1,6 @@
 use borrow.Author.Tests.{eq-eqb, ne_eqb}
 use native.Mathlib.Nat.{zero-add}
 use Rattle.holding.specs.Deal.{dealers_first}
-use borrow.Author.Rules.{rules}
 use Rattle.holding.proofs.hole_at.Goals as goal
 
 pub returns-then-offer-eq0 : goal.returns-then-offer-eq0

@@ -1,5 +1,4 @@
 use Rattle.holding.specs.Deal.{hole}
-use borrow.Author.Rules.{rules}
 use Rattle.holding.proofs.hole_of.Goals as goal
 
 pub returns : goal.returns

@@ -1,12 +1,6 @@
 use Prim.Native.Nat.{◌-◌}
-use mathlib.Core.Path.{ap}
-use mathlib.Core.Logic.{⊎_elim}
-use mathlib.Core.Bool.{not}
-use borrow.Author.Tests.{eq-eqb, ne_eqb}
-use Rattle.counting.proofs.Ranges.{Tallied, tally-none, tally_hit, tally_miss, tally-done}
+use Rattle.counting.proofs.Ranges.{Tallied}
 use Rattle.records.specs.Seats.{plays}
-use Rattle.holding.specs.Deal.{playing_before}
-use borrow.Author.Rules.{rules}
 use Rattle.holding.proofs.playing_before.Given as goal
 
 abbrev pub invariant-loop-i : goal.invariant-loop-i

@@ -1,5 +1,4 @@
 use Rattle.holding.specs.Deal.{hole, community, six_card, six_hand}
-use borrow.Author.Rules.{rules}
 use Rattle.holding.proofs.six_of.Goals as goal
 
 pub returns : goal.returns

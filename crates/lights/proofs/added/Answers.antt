@@ -1,6 +1,5 @@
 use native.Mathlib.Omega.{arith}
 use Rattle.lights.proofs.Ranks.{adds, adds_none}
-use borrow.Author.Rules.{rules}
 use Rattle.lights.proofs.added.Goals as goal
 
 pub returns-then-ranks-word1-ne0 : goal.returns-then-ranks-word1-ne0

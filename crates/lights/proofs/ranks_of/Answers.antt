@@ -1,6 +1,5 @@
 use mathlib.Core.Path.{refl}
 use Rattle.words.specs.Word.{digits}
-use borrow.Author.Rules.{rules}
 use Rattle.lights.proofs.ranks_of.Goals as goal
 
 pub returns-in-All : goal.returns-in-All

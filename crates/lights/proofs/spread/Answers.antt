@@ -2,7 +2,6 @@ use Prim.Native.Nat.{◌*◌, ◌%◌, ◌^◌}
 use native.Mathlib.Nat.{mod-le}
 use native.Mathlib.Omega.{arith}
 use Rattle.lights.proofs.Sums.{spread_out, spread_none, power}
-use borrow.Author.Rules.{rules}
 use Rattle.lights.proofs.spread.Goals as goal
 
 pub nonzero_rem-result : goal.nonzero_rem-result

@@ -1,7 +1,6 @@
 use mathlib.Core.Bool.{◌&&◌}
 use native.Mathlib.Omega.{arith}
 use lib.Dec.{ltb}
-use borrow.Author.Rules.{rules}
 use Rattle.cards.specs.Card.{rank}
 use Rattle.lights.proofs.Sums.{five-sum}
 use Rattle.lights.proofs.sum5.Goals as goal

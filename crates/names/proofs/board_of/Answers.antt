@@ -1,4 +1,3 @@
-use borrow.Author.Rules.{rules}
 use Rattle.names.specs.Board.{name_board, board_by}
 use Rattle.names.proofs.board_of.Goals as goal
 

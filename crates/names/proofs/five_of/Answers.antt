@@ -1,4 +1,3 @@
-use borrow.Author.Rules.{rules}
 use Rattle.names.specs.Five.{name_five, five_by}
 use Rattle.names.proofs.five_of.Goals as goal
 

@@ -1,5 +1,4 @@
 use mathlib.Core.Path.{sym, ◌∙◌}
-use borrow.Author.Rules.{rules}
 use Rattle.names.proofs.Fives.{all_differ, some_alike}
 use Rattle.names.proofs.five_of_word.Goals as goal
 

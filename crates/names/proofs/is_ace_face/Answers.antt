@@ -1,4 +1,3 @@
-use borrow.Author.Rules.{rules}
 use Rattle.names.specs.Pocket.{ace_face}
 use Rattle.names.proofs.is_ace_face.Goals as goal
 

@@ -1,4 +1,3 @@
-use borrow.Author.Rules.{rules}
 use Rattle.names.specs.Lo.{is_lo}
 use Rattle.names.proofs.is_lo.Goals as goal
 

@@ -1,5 +1,4 @@
 use mathlib.Core.List.{[], ◌∷◌}
-use borrow.Author.Rules.{rules}
 use Rattle.hands.specs.Hand.{of_rank}
 use Rattle.words.proofs.Cards.{few_cards}
 use Rattle.names.specs.Lo.{is_lo}

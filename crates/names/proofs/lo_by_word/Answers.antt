@@ -1,5 +1,4 @@
 use mathlib.Core.List.{[], ◌∷◌}
-use borrow.Author.Rules.{rules}
 use Rattle.hands.specs.Hand.{of_rank, of_suit}
 use Rattle.words.proofs.Cards.{five-highest}
 use Rattle.names.specs.Lo.{name_lo}

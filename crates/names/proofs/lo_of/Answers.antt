@@ -1,5 +1,4 @@
 use mathlib.Core.Path.{sym, ◌∙◌}
-use borrow.Author.Rules.{rules}
 use Rattle.names.specs.Lo.{lo_by, name_lo}
 use Rattle.names.proofs.lo_of.Goals as goal
 

@@ -1,5 +1,4 @@
 use native.Mathlib.Omega.{arith}
-use borrow.Author.Rules.{rules}
 use Rattle.counting.specs.Count.{gather}
 use Rattle.hands.proofs.Refusals.{within}
 use Rattle.names.specs.Five.{name_five, answer_five}

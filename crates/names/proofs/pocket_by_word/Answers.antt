@@ -1,6 +1,5 @@
 use mathlib.Core.List.{[], ◌∷◌}
 use native.Mathlib.Omega.{arith}
-use borrow.Author.Rules.{rules}
 use Rattle.hands.specs.Hand.{of_rank}
 use Rattle.words.specs.Word.{Has}
 use Rattle.words.proofs.Cards.{few_cards}

@@ -1,4 +1,3 @@
-use borrow.Author.Rules.{rules}
 use Rattle.names.specs.Pocket.{name_pocket, pocket_by}
 use Rattle.names.proofs.pocket_of.Goals as goal
 

@@ -1,7 +1,6 @@
 use Prim.Native.Nat.{◌<◌}
 use mathlib.Core.Path.{refl, ◌∙◌}
 use native.Mathlib.Omega.{arith}
-use borrow.Author.Rules.{rules}
 use Rattle.counting.specs.Count.{every_below}
 use Rattle.odds.specs.Tables.{board_lines}
 use Rattle.odds.specs.Numbers.{said_by}

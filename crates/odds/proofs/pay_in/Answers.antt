@@ -1,5 +1,4 @@
 use mathlib.Core.Path.{◌∙◌}
-use borrow.Author.Rules.{rules}
 use Rattle.odds.proofs.Lines.{table_0, table_above, table_there}
 use Rattle.odds.proofs.pay_in.Goals as goal
 

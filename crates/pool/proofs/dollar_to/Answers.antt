@@ -1,7 +1,6 @@
 use native.Mathlib.Omega.{arith}
 use borrow.Author.Tests.{le-leb, lt-leb}
 use Rattle.pool.specs.Standings.{gets_dollar}
-use borrow.Author.Rules.{rules}
 use Rattle.pool.proofs.dollar_to.Goals as goal
 
 pub returns-then-own-lt8 : goal.returns-then-own-lt8

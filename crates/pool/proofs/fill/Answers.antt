@@ -1,10 +1,10 @@
-use Prim.Native.Nat.{◌-◌, ◌≤◌, ◌<◌}
+use Prim.Native.Nat.{◌≤◌, ◌<◌}
 use mathlib.Core.Path.{refl, sym, ◌∙◌}
 use native.Mathlib.Omega.{arith}
 use lib.ListN.{length, length-map}
 use borrow.Author.Rules.{rules}
 use Rattle.counting.specs.Count.{total}
-use Rattle.counting.proofs.Fills.{Filled, fill_none, fill_more, filled}
+use Rattle.counting.proofs.Fills.{fill_none, fill_more, filled}
 use Rattle.pool.specs.Pool.{rounded_down, dollars_left}
 use Rattle.pool.proofs.Laws.{fit_total}
 use Rattle.pool.proofs.Rounded.{rounded_within}

@@ -1,16 +1,12 @@
 -- The shares before place k have what falls to them, and those from there on are as they were.
-use Prim.Native.Nat.{ℕ, ◌+◌, ◌-◌, ◌≤◌, ◌<◌}
-use mathlib.Core.Path.{◌≡◌, refl, ◌∙◌}
-use mathlib.Core.List.{List}
+use Prim.Native.Nat.{◌≤◌, ◌<◌}
+use mathlib.Core.Path.{refl, ◌∙◌}
 use native.Mathlib.Omega.{arith}
-use lib.ListN.{length, get_or, length-set}
+use lib.ListN.{length, length-set}
 use lib.Seq.{get_or-set_other}
-use borrow.Author.Rules.{rules}
-use Rattle.counting.specs.Choose.{one}
-use Rattle.counting.specs.Count.{each}
-use Rattle.counting.proofs.Fills.{Filled, each_none, each_more, each_all}
+use Rattle.counting.proofs.Fills.{each_none, each_more, each_all}
 use Rattle.counting.proofs.Tallies.{total_at}
-use Rattle.pool.specs.Standings.{gets_dollar, given}
+use Rattle.pool.specs.Standings.{given}
 use Rattle.pool.proofs.give.Goals as goal
 
 pub loop-k-init : goal.loop-k-init

@@ -4,7 +4,6 @@ use Rattle.pool.specs.Pool.{shares_of}
 use Rattle.pool.proofs.Laws.{fit_total}
 use Rattle.pool.proofs.Shares.{shares_law, kept}
 use Rattle.pool.proofs.Pools.{all_within, pool-refused, pool_shared}
-use borrow.Author.Rules.{rules}
 use Rattle.pool.proofs.pool_of.Goals as goal
 
 pub returns-then-number-ne0 : goal.returns-then-number-ne0

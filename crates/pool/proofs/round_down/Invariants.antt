@@ -1,18 +1,11 @@
 -- The shares stored, then those of what is left, are the shares of all; and so are the standings.
-use Prim.Native.Nat.{ℕ, ◌*◌, ◌-◌, ◌≤◌, ◌<◌}
-use mathlib.Core.Path.{◌≡◌, refl, ap, sym, ◌∙◌}
-use mathlib.Core.List.{List, map}
-use native.Mathlib.Nat.{mul-le-mul, mod-lt}
-use native.Mathlib.Omega.{arith}
-use lib.ListN.{length, get_or, set, length-set, length-map}
-use borrow.Author.Rules.{rules}
-use borrow.Author.Tests.{leb-true}
-use Rattle.counting.proofs.Fills.{Filled, fill_none, fill_more, filled}
-use Rattle.counting.proofs.Lists.{every_of_at}
-use Rattle.pool.specs.Pool.{rounded_down, fraction, wins_fit}
-use Rattle.pool.specs.Standings.{standing, standings}
-use Rattle.pool.proofs.Rounded.{rounded_at_lem}
-use Rattle.pool.proofs.Standing.{standings-none, standings_more}
+use Prim.Native.Nat.{◌-◌, ◌≤◌}
+use mathlib.Core.Path.{◌≡◌}
+use mathlib.Core.List.{map}
+use lib.ListN.{length}
+use Rattle.counting.proofs.Fills.{Filled}
+use Rattle.pool.specs.Pool.{rounded_down}
+use Rattle.pool.specs.Standings.{standings}
 use Rattle.pool.proofs.round_down.Given as goal
 
 abbrev pub invariant-loop-i : goal.invariant-loop-i

@@ -1,6 +1,5 @@
 use mathlib.Core.Path.{sym, ◌∙◌}
 use native.Mathlib.Omega.{arith}
-use borrow.Author.Rules.{rules}
 use Rattle.pool.proofs.Laws.{fit_total}
 use Rattle.pool.proofs.Shares.{kept, answer-refused, answer_full, answer-cut, accepted, refused, promised}
 use Rattle.pool.proofs.share.Goals as goal

@@ -1,11 +1,8 @@
 -- The total is what was added and the total of what is left.
 use Prim.Native.Nat.{◌≤◌, ◌-◌, ◌+◌}
 use mathlib.Core.Path.{◌≡◌}
-use native.Mathlib.Omega.{arith}
 use lib.ListN.{length, drop}
-use borrow.Author.Rules.{rules}
 use Rattle.counting.specs.Count.{total}
-use Rattle.counting.proofs.Lists.{total_step, total_end}
 use Rattle.pool.proofs.total_of.Given as goal
 
 abbrev pub invariant-loop-i : goal.invariant-loop-i

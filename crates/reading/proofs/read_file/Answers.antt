@@ -1,6 +1,5 @@
 -- `reading::read_file` meets its contract.
 use mathlib.Core.Path.{◌∙◌}
-use borrow.Author.Rules.{rules}
 use Rattle.reading.proofs.Prefix.{prefix_none}
 use Rattle.reading.proofs.read_file.Goals as goal
 

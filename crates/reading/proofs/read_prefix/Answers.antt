@@ -1,5 +1,4 @@
 -- `reading::read_prefix` meets its contract.
-use borrow.Author.Rules.{rules}
 use borrow.Author.Tests.{eq-eqb, ne_eqb}
 use Rattle.reading.specs.File.{read_prefix}
 use Rattle.reading.proofs.read_prefix.Goals as goal

@@ -1,11 +1,8 @@
 -- `reading::read_records` meets its contract: reading the file is reading what is left of it, from the round held.
-use Prim.Native.Nat.{◌≤◌, ◌+◌}
-use mathlib.Core.Path.{◌≡◌, sym, ◌∙◌}
+use mathlib.Core.Path.{sym, ◌∙◌}
 use native.Mathlib.Omega.{arith}
 use borrow.Author.Rules.{rules}
-use lib.ListN.{length, length-take, length-drop}
-use Rattle.round.specs.Feed.{feed}
-use Rattle.reading.specs.File.{file_records, read_by, read_records}
+use lib.ListN.{length-take, length-drop}
 use Rattle.reading.proofs.Records.{rest_of}
 use Rattle.reading.proofs.Readings.{file_on, file_stops, file_ends}
 use Rattle.reading.proofs.read_records.Goals as goal

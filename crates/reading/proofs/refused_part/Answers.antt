@@ -1,7 +1,6 @@
 -- `reading::refused_part` meets its contract, by the place where reading ends.
 use mathlib.Core.Path.{refl}
 use native.Mathlib.Omega.{arith}
-use borrow.Author.Rules.{rules}
 use Rattle.reading.proofs.Parts.{part_in, part_last, part_whole, part_at}
 use Rattle.reading.proofs.refused_part.Goals as goal
 

@@ -1,8 +1,5 @@
-use Prim.Native.Nat.{◌≤◌, ◌-◌}
-use mathlib.Core.Path.{◌≡◌, sym}
-use mathlib.Core.Bool.{false}
+use mathlib.Core.Path.{sym}
 use borrow.Author.Tests.{eq-eqb, ne_eqb}
-use Rattle.counting.specs.Count.{some_below}
 use Rattle.counting.proofs.Ranges.{some_none, some_more, some_done, some_here}
 use Rattle.records.specs.Seats.{plays, any_plays}
 use borrow.Author.Rules.{rules}

@@ -1,11 +1,8 @@
 use Prim.Native.Nat.{◌≤◌, ◌-◌}
-use mathlib.Core.Path.{◌≡◌, sym}
+use mathlib.Core.Path.{◌≡◌}
 use mathlib.Core.Bool.{false}
-use borrow.Author.Tests.{eq-eqb, ne_eqb}
 use Rattle.counting.specs.Count.{some_below}
-use Rattle.counting.proofs.Ranges.{some_none, some_more, some_done, some_here}
-use Rattle.records.specs.Seats.{plays, any_plays}
-use borrow.Author.Rules.{rules}
+use Rattle.records.specs.Seats.{plays}
 use Rattle.records.proofs.any_plays.Given as goal
 
 abbrev pub invariant-loop-k : goal.invariant-loop-k

@@ -1,12 +1,8 @@
 use Prim.Native.Nat.{◌-◌}
-use mathlib.Core.Path.{◌≡◌, refl, sym, ◌∙◌}
+use mathlib.Core.Path.{◌≡◌}
 use lib.Dec.{eqb}
 use lib.ListN.{length, drop}
-use borrow.Author.Tests.{eq-eqb, ne_eqb}
 use Rattle.counting.specs.Count.{every_of}
-use Rattle.counting.proofs.Lists.{every_of_step, every_of_end}
-use Rattle.records.specs.Bytes.{zero_from}
-use borrow.Author.Rules.{rules}
 use Rattle.records.proofs.is_zero_from.Given as goal
 
 abbrev pub invariant-loop-i : goal.invariant-loop-i

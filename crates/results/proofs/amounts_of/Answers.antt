@@ -1,5 +1,4 @@
 use Rattle.amounts.specs.Sides.{board_amount}
-use borrow.Author.Rules.{rules}
 use Rattle.results.proofs.amounts_of.Goals as goal
 
 pub returns : goal.returns

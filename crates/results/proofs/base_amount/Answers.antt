@@ -1,6 +1,5 @@
 use native.Mathlib.Omega.{arith}
 use Rattle.results.proofs.Judging.{share_there, base_with, base-without}
-use borrow.Author.Rules.{rules}
 use Rattle.results.proofs.base_amount.Goals as goal
 
 pub overflow_add-result : goal.overflow_add-result

@@ -1,5 +1,4 @@
 use Rattle.results.specs.Results.{pool}
-use borrow.Author.Rules.{rules}
 use Rattle.results.proofs.judge.Goals as goal
 
 pub returns : goal.returns

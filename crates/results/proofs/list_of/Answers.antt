@@ -1,9 +1,8 @@
-use Prim.Native.Nat.{◌-◌, ◌≤◌}
 use mathlib.Core.Path.{refl}
 use native.Mathlib.Omega.{arith}
 use lib.ListN.{replicate}
 use Rattle.results.specs.Results.{results_long}
-use Rattle.results.proofs.Filling.{Seats, no_seats, next_seat, all_seats}
+use Rattle.results.proofs.Filling.{no_seats, next_seat, all_seats}
 use borrow.Author.Rules.{rules}
 use Rattle.results.proofs.list_of.Goals as goal
 

@@ -1,10 +1,5 @@
 use Prim.Native.Nat.{◌-◌, ◌≤◌}
-use mathlib.Core.Path.{refl}
-use native.Mathlib.Omega.{arith}
-use lib.ListN.{replicate}
-use Rattle.results.specs.Results.{results_long}
-use Rattle.results.proofs.Filling.{Seats, no_seats, next_seat, all_seats}
-use borrow.Author.Rules.{rules}
+use Rattle.results.proofs.Filling.{Seats}
 use Rattle.results.proofs.list_of.Given as goal
 
 abbrev pub invariant-loop-k : goal.invariant-loop-k

@@ -1,4 +1,3 @@
-use borrow.Author.Rules.{rules}
 use Rattle.results.proofs.results_of.Goals as goal
 
 pub returns : goal.returns

@@ -3,7 +3,6 @@ use native.Mathlib.Omega.{arith}
 use Rattle.reading.proofs.Readings.{read_place_lem}
 use Prim.Native.Nat.{◌≤◌, ◌*◌}
 use lib.ListN.{length}
-use borrow.Author.Rules.{rules}
 use Rattle.ripplehatch.proofs.ripplehatch_refused_part.Goals as goal
 
 pub overflow_mul-result : goal.overflow_mul-result

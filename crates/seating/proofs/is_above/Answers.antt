@@ -1,7 +1,5 @@
-use Prim.Native.Nat.{◌≤◌, ◌-◌}
 use mathlib.Core.Path.{◌≡◌, sym, ap}
 use mathlib.Core.Bool.{true, false, not}
-use Rattle.counting.specs.Count.{every_below}
 use Rattle.counting.proofs.Ranges.{every_none, every_more, every_done, every_broken}
 use Rattle.seating.specs.Seat.{is_above, is_lower}
 use borrow.Author.Rules.{rules}

@@ -1,10 +1,8 @@
 use Prim.Native.Nat.{◌≤◌, ◌-◌}
-use mathlib.Core.Path.{◌≡◌, sym, ap}
-use mathlib.Core.Bool.{true, false, not}
+use mathlib.Core.Path.{◌≡◌}
+use mathlib.Core.Bool.{true}
 use Rattle.counting.specs.Count.{every_below}
-use Rattle.counting.proofs.Ranges.{every_none, every_more, every_done, every_broken}
-use Rattle.seating.specs.Seat.{is_above, is_lower}
-use borrow.Author.Rules.{rules}
+use Rattle.seating.specs.Seat.{is_lower}
 use Rattle.seating.proofs.is_above.Given as goal
 
 abbrev pub invariant-loop-k : goal.invariant-loop-k

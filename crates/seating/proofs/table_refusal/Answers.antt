@@ -1,7 +1,5 @@
 use mathlib.Core.Path.{sym, ap, ◌∙◌}
-use borrow.Author.Tests.{not-true, not-false}
 use Rattle.seating.specs.Table.{limits_fit, tables_fit, table_refusal}
-use borrow.Author.Rules.{rules}
 use Rattle.seating.proofs.table_refusal.Goals as goal
 
 pub returns-then-not-is_zero_from : goal.returns-then-not-is_zero_from

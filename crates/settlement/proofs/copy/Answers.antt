@@ -1,8 +1,6 @@
-use Prim.Native.Nat.{◌≤◌, ◌-◌}
 use mathlib.Core.Path.{refl}
 use native.Mathlib.Omega.{arith}
-use lib.ListN.{length}
-use Rattle.counting.proofs.Fills.{Filled, fill_none, fill_more, filled}
+use Rattle.counting.proofs.Fills.{fill_none, fill_more, filled}
 use borrow.Author.Rules.{rules}
 use Rattle.settlement.proofs.copy.Goals as goal
 

@@ -1,9 +1,6 @@
 use Prim.Native.Nat.{◌≤◌, ◌-◌}
-use mathlib.Core.Path.{refl}
-use native.Mathlib.Omega.{arith}
 use lib.ListN.{length}
-use Rattle.counting.proofs.Fills.{Filled, fill_none, fill_more, filled}
-use borrow.Author.Rules.{rules}
+use Rattle.counting.proofs.Fills.{Filled}
 use Rattle.settlement.proofs.copy.Given as goal
 
 abbrev pub invariant-loop-i : goal.invariant-loop-i

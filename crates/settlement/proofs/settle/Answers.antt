@@ -1,7 +1,5 @@
 use mathlib.Core.Path.{sym, ◌∙◌}
-use borrow.Author.Tests.{not-true, not-false}
 use Rattle.settlement.proofs.Answers.{not_held, wrong_room, round_promised}
-use borrow.Author.Rules.{rules}
 use Rattle.settlement.proofs.settle.Goals as goal
 
 pub returns-then-not-is_held : goal.returns-then-not-is_held

@@ -1,6 +1,5 @@
 use Rattle.reading.proofs.Readings.{read_number, read_held, read_count}
 use Rattle.settlement.proofs.Answers.{file_promised}
-use borrow.Author.Rules.{rules}
 use Rattle.settlement.proofs.settle_file.Goals as goal
 
 pub settle_reading-requires : goal.settle_reading-requires

@@ -1,9 +1,7 @@
 use mathlib.Core.Path.{ap, sym, ◌∙◌}
-use borrow.Author.Tests.{not-true, not-false}
 use Rattle.results.specs.declared.Results.{Results}
 use Rattle.settlement.specs.declared.Settlement.TheVariants.{Paid}
 use Rattle.settlement.proofs.Answers.{unfinished, all_paid}
-use borrow.Author.Rules.{rules}
 use Rattle.settlement.proofs.settle_held.Goals as goal
 
 pub returns-then-not-is_finished : goal.returns-then-not-is_finished

@@ -1,6 +1,5 @@
 use Rattle.reading.proofs.Prefix.{prefix_held, prefix_number, prefix_count}
 use Rattle.settlement.proofs.Answers.{file_promised}
-use borrow.Author.Rules.{rules}
 use Rattle.settlement.proofs.settle_prefix.Goals as goal
 
 pub settle_reading-requires : goal.settle_reading-requires

@@ -1,5 +1,4 @@
 use Rattle.settlement.proofs.Answers.{read_room, read_refused, read_settled}
-use borrow.Author.Rules.{rules}
 use Rattle.settlement.proofs.settle_reading.Goals as goal
 
 pub returns-then-results-ne-RESULTS : goal.returns-then-results-ne-RESULTS

@@ -1,10 +1,8 @@
-use Prim.Native.Nat.{◌≤◌, ◌-◌}
-use mathlib.Core.Path.{◌≡◌, refl, sym, ◌∙◌}
+use mathlib.Core.Path.{refl, sym, ◌∙◌}
 use native.Mathlib.Omega.{arith}
 use lib.ListN.{length, replicate, length-replicate}
-use Rattle.counting.proofs.Fills.{Filled, fill_none}
+use Rattle.counting.proofs.Fills.{fill_none}
 use Rattle.shifts.proofs.Parts.{zeros_more, zeros_all}
-use borrow.Author.Rules.{rules}
 use Rattle.shifts.proofs.clear.Goals as goal
 
 pub loop-i-init : goal.loop-i-init

@@ -1,6 +1,5 @@
 use mathlib.Core.Path.{◌∙◌}
 use Rattle.shifts.proofs.Ones.{one_settled}
-use borrow.Author.Rules.{rules}
 use Rattle.shifts.proofs.settle_one.Goals as goal
 
 pub returns : goal.returns

@@ -1,9 +1,6 @@
-use Prim.Native.Nat.{◌-◌}
 use native.Mathlib.Omega.{arith}
-use lib.ListN.{length}
 use Rattle.shifts.proofs.Parts.{part_long}
-use Rattle.shifts.proofs.Turns.{Settling, settling_none, settling_next, settling_more, settling_all}
-use borrow.Author.Rules.{rules}
+use Rattle.shifts.proofs.Turns.{settling_none, settling_next, settling_more, settling_all}
 use Rattle.shifts.proofs.settle_rounds.Goals as goal
 
 pub loop-start-init : goal.loop-start-init

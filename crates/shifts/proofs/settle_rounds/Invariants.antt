@@ -1,9 +1,6 @@
 use Prim.Native.Nat.{◌-◌}
-use native.Mathlib.Omega.{arith}
 use lib.ListN.{length}
-use Rattle.shifts.proofs.Parts.{part_long}
-use Rattle.shifts.proofs.Turns.{Settling, settling_none, settling_next, settling_more, settling_all}
-use borrow.Author.Rules.{rules}
+use Rattle.shifts.proofs.Turns.{Settling}
 use Rattle.shifts.proofs.settle_rounds.Given as goal
 
 abbrev pub invariant-loop-start : goal.invariant-loop-start

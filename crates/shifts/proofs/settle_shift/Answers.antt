@@ -1,8 +1,6 @@
 use mathlib.Core.Path.{◌∙◌}
-use borrow.Author.Tests.{not-true, not-false}
 use Rattle.shifts.specs.Shift.{lists_fit}
 use Rattle.shifts.proofs.Answers.{fit_told, both_right, odd_tail, wrong_lists, all_settled, shift_promised}
-use borrow.Author.Rules.{rules}
 use Rattle.shifts.proofs.settle_shift.Goals as goal
 
 pub returns-then-file-ne0 : goal.returns-then-file-ne0

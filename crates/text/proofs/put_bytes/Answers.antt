@@ -1,6 +1,5 @@
-use Prim.Native.Nat.{◌≤◌, ◌+◌, ◌-◌}
-use mathlib.Core.Path.{◌≡◌, refl, sym, ◌∙◌}
-use lib.ListN.{length, drop}
+use mathlib.Core.Path.{refl, sym, ◌∙◌}
+use lib.ListN.{drop}
 use Rattle.counting.proofs.Stores.{sets_next, sets_done}
 use Rattle.text.specs.Text.{behind, written}
 use Rattle.text.proofs.Writes.{write_past}

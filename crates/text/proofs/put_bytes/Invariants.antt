@@ -1,10 +1,7 @@
 use Prim.Native.Nat.{◌≤◌, ◌+◌, ◌-◌}
-use mathlib.Core.Path.{◌≡◌, refl, sym, ◌∙◌}
+use mathlib.Core.Path.{◌≡◌}
 use lib.ListN.{length, drop}
-use Rattle.counting.proofs.Stores.{sets_next, sets_done}
-use Rattle.text.specs.Text.{behind, written}
-use Rattle.text.proofs.Writes.{write_past}
-use borrow.Author.Rules.{rules}
+use Rattle.text.specs.Text.{written}
 use Rattle.text.proofs.put_bytes.Given as goal
 
 abbrev pub invariant-loop-from : goal.invariant-loop-from

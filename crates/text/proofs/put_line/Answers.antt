@@ -1,7 +1,6 @@
 use mathlib.Core.List.{[], ◌∷◌, ◌++◌}
 use Rattle.text.specs.Text.{listed}
 use Rattle.text.proofs.Writes.{write_both, behind_both}
-use borrow.Author.Rules.{rules}
 use Rattle.text.proofs.put_line.Goals as goal
 
 pub returns : goal.returns

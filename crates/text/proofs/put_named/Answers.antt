@@ -1,6 +1,5 @@
 use Rattle.text.specs.Text.{decimal}
 use Rattle.text.proofs.Writes.{write_both, behind_both}
-use borrow.Author.Rules.{rules}
 use Rattle.text.proofs.put_named.Goals as goal
 
 pub returns : goal.returns

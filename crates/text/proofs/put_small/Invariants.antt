@@ -1,11 +1,8 @@
 use Prim.Native.Nat.{◌-◌}
-use mathlib.Core.Path.{◌≡◌, refl, ◌∙◌}
-use lib.ListN.{length, get_or, drop}
-use mathlib.Core.List.{◌∷◌}
-use Rattle.text.specs.Text.{decimal, listed}
-use Rattle.text.proofs.Writes.{Onward, write_both, behind_both, onward_more, onward_over}
-use Rattle.text.proofs.Lists.{listed_more, listed_over}
-use borrow.Author.Rules.{rules}
+use mathlib.Core.Path.{◌≡◌}
+use lib.ListN.{length, drop}
+use Rattle.text.specs.Text.{listed}
+use Rattle.text.proofs.Writes.{Onward}
 use Rattle.text.proofs.put_small.Given as goal
 
 abbrev pub invariant-loop-i : goal.invariant-loop-i

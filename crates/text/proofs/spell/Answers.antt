@@ -1,7 +1,5 @@
-use Prim.Native.Nat.{◌≤◌}
-use mathlib.Core.Path.{◌≡◌, refl, ◌∙◌}
-use lib.ListN.{length, drop, replicate}
-use Rattle.text.specs.Text.{digits_then, decimal}
+use mathlib.Core.Path.{refl, ◌∙◌}
+use lib.ListN.{replicate}
 use Rattle.text.proofs.Digits.{digits-first, digits_more, digits_over, digits_full}
 use borrow.Author.Rules.{rules}
 use Rattle.text.proofs.spell.Goals as goal

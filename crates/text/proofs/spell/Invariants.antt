@@ -1,9 +1,7 @@
 use Prim.Native.Nat.{◌≤◌}
-use mathlib.Core.Path.{◌≡◌, refl, ◌∙◌}
-use lib.ListN.{length, drop, replicate}
+use mathlib.Core.Path.{◌≡◌}
+use lib.ListN.{length, drop}
 use Rattle.text.specs.Text.{digits_then, decimal}
-use Rattle.text.proofs.Digits.{digits-first, digits_more, digits_over, digits_full}
-use borrow.Author.Rules.{rules}
 use Rattle.text.proofs.spell.Given as goal
 
 abbrev pub invariant-loop-first : goal.invariant-loop-first

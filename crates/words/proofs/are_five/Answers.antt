@@ -1,5 +1,4 @@
 use mathlib.Core.List.{[], ◌∷◌}
-use borrow.Author.Rules.{rules}
 use Rattle.hands.specs.Hand.{of_rank}
 use Rattle.words.proofs.Cards.{few_cards, five_ranks}
 use Rattle.words.proofs.are_five.Goals as goal

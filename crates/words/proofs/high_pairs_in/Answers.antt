@@ -1,7 +1,6 @@
 use Prim.Native.Nat.{ℕ, ◌/◌, ◌%◌}
 use mathlib.Core.Path.{ap, ◌∙◌}
 use native.Mathlib.Omega.{arith}
-use borrow.Author.Rules.{rules}
 use Rattle.words.proofs.Planes.{part_count}
 use Rattle.words.proofs.high_pairs_in.Goals as goal
 

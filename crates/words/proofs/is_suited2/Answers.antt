@@ -1,4 +1,3 @@
-use borrow.Author.Rules.{rules}
 use Rattle.words.proofs.Cards.{two-suited}
 use Rattle.words.proofs.is_suited2.Goals as goal
 

@@ -1,4 +1,3 @@
-use borrow.Author.Rules.{rules}
 use Rattle.words.proofs.Cards.{three_suited}
 use Rattle.words.proofs.is_suited3.Goals as goal
 

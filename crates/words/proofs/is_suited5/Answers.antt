@@ -1,4 +1,3 @@
-use borrow.Author.Rules.{rules}
 use Rattle.words.proofs.Cards.{five-suited}
 use Rattle.words.proofs.is_suited5.Goals as goal
 

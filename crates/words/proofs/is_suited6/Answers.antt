@@ -1,4 +1,3 @@
-use borrow.Author.Rules.{rules}
 use Rattle.words.proofs.Cards.{six-suited}
 use Rattle.words.proofs.is_suited6.Goals as goal
 

@@ -1,4 +1,3 @@
-use borrow.Author.Rules.{rules}
 use Rattle.words.proofs.Lines.{line}
 use Rattle.words.proofs.line_of.Goals as goal
 

@@ -1,6 +1,5 @@
 use Prim.Native.Nat.{ℕ, ◌%◌}
 use mathlib.Core.Path.{ap, ◌∙◌}
-use borrow.Author.Rules.{rules}
 use Rattle.words.proofs.Planes.{how_many}
 use Rattle.words.proofs.pairs_in.Goals as goal
 

@@ -1,5 +1,4 @@
 use mathlib.Core.Path.{ap, ◌∙◌}
-use borrow.Author.Rules.{rules}
 use Rattle.words.proofs.Lines.{meet, five_runs}
 use Rattle.words.proofs.runs5.Goals as goal
 

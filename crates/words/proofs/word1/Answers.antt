@@ -1,7 +1,6 @@
 use Prim.Native.Nat.{ℕ}
 use mathlib.Core.Path.{ap, ◌∙◌}
 use lib.Dec.{eqb}
-use borrow.Author.Rules.{rules}
 use Rattle.counting.specs.Choose.{one}
 use Rattle.words.specs.Word.{word}
 use Rattle.words.proofs.Cards.{alone}

@@ -1,6 +1,5 @@
 use mathlib.Core.List.{[], ◌∷◌}
 use native.Mathlib.Omega.{arith}
-use borrow.Author.Rules.{rules}
 use Rattle.words.proofs.Cards.{word_both, word-most}
 use Rattle.words.proofs.word3.Goals as goal
 

@@ -1,4 +1,3 @@
-use borrow.Author.Rules.{rules}
 use Rattle.words.proofs.Cards.{rank-word, no_rank_word}
 use Rattle.words.proofs.word_of.Goals as goal
 

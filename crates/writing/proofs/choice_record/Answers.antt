@@ -1,6 +1,5 @@
 use mathlib.Core.Path.{refl}
 use Rattle.choosing.specs.Choice.{choice_record}
-use borrow.Author.Rules.{rules}
 use Rattle.writing.proofs.choice_record.Goals as goal
 
 pub returns : goal.returns

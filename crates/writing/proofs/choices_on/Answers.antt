@@ -1,8 +1,5 @@
-use Prim.Native.Nat.{◌-◌}
 use mathlib.Core.Path.{sym, ◌∙◌}
-use mathlib.Core.Logic.{⊎_elim}
-use Rattle.counting.proofs.Ranges.{Tallied, tally-none, tally_hit, tally_miss, tally-done}
-use Rattle.choosing.specs.Streets.{has_chosen}
+use Rattle.counting.proofs.Ranges.{tally-none, tally_hit, tally_miss, tally-done}
 use borrow.Author.Rules.{rules}
 use Rattle.writing.proofs.choices_on.Goals as goal
 use Rattle.writing.proofs.choices_on.Goals.{then-has_chosen, else-has_chosen}

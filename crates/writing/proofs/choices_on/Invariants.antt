@@ -1,9 +1,6 @@
 use Prim.Native.Nat.{◌-◌}
-use mathlib.Core.Path.{sym, ◌∙◌}
-use mathlib.Core.Logic.{⊎_elim}
-use Rattle.counting.proofs.Ranges.{Tallied, tally-none, tally_hit, tally_miss, tally-done}
+use Rattle.counting.proofs.Ranges.{Tallied}
 use Rattle.choosing.specs.Streets.{has_chosen}
-use borrow.Author.Rules.{rules}
 use Rattle.writing.proofs.choices_on.Given as goal
 
 abbrev pub invariant-loop-k : goal.invariant-loop-k

@@ -1,5 +1,4 @@
 use Rattle.choosing.specs.Streets.{has_chosen}
-use borrow.Author.Rules.{rules}
 use Rattle.writing.proofs.has_chosen.Goals as goal
 
 pub returns : goal.returns

@@ -1,8 +1,8 @@
-use Prim.Native.Nat.{◌+◌, ◌*◌, ◌-◌, ◌≤◌}
+use Prim.Native.Nat.{◌+◌, ◌*◌, ◌≤◌}
 use mathlib.Core.Path.{◌≡◌}
 use native.Mathlib.Omega.{arith}
 use lib.ListN.{length, set, replicate}
-use Rattle.writing.proofs.Parts.{Dealt, dealt-none, dealt_more, part_whole}
+use Rattle.writing.proofs.Parts.{dealt-none, dealt_more, part_whole}
 use borrow.Author.Rules.{rules}
 use Rattle.writing.proofs.part_record.Goals as goal
 

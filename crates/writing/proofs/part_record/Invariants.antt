@@ -1,9 +1,5 @@
-use Prim.Native.Nat.{◌+◌, ◌*◌, ◌-◌, ◌≤◌}
-use mathlib.Core.Path.{◌≡◌}
-use native.Mathlib.Omega.{arith}
-use lib.ListN.{length, set, replicate}
-use Rattle.writing.proofs.Parts.{Dealt, dealt-none, dealt_more, part_whole}
-use borrow.Author.Rules.{rules}
+use Prim.Native.Nat.{◌-◌}
+use Rattle.writing.proofs.Parts.{Dealt}
 use Rattle.writing.proofs.part_record.Given as goal
 
 abbrev pub invariant-loop-j : goal.invariant-loop-j

@@ -1,8 +1,6 @@
-use Prim.Native.Nat.{◌+◌, ◌-◌, ◌≤◌}
 use mathlib.Core.Path.{◌≡◌, refl, sym, ◌∙◌}
 use native.Mathlib.Omega.{arith}
-use lib.ListN.{length, drop}
-use lib.Seq.{sets}
+use lib.ListN.{length}
 use Rattle.counting.proofs.Stores.{sets_start, sets_more, sets_done}
 use borrow.Author.Rules.{rules}
 use Rattle.writing.proofs.put.Goals as goal

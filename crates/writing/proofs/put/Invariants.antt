@@ -1,10 +1,7 @@
 use Prim.Native.Nat.{◌+◌, ◌-◌, ◌≤◌}
-use mathlib.Core.Path.{◌≡◌, refl, sym, ◌∙◌}
-use native.Mathlib.Omega.{arith}
+use mathlib.Core.Path.{◌≡◌}
 use lib.ListN.{length, drop}
 use lib.Seq.{sets}
-use Rattle.counting.proofs.Stores.{sets_start, sets_more, sets_done}
-use borrow.Author.Rules.{rules}
 use Rattle.writing.proofs.put.Given as goal
 
 abbrev pub invariant-loop-i : goal.invariant-loop-i

@@ -1,4 +1,3 @@
-use borrow.Author.Rules.{rules}
 use Rattle.writing.proofs.put_choice.Goals as goal
 
 pub choice_record-bytes-requires : goal.choice_record-bytes-requires

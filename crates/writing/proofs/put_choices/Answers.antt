@@ -1,7 +1,5 @@
-use Prim.Native.Nat.{◌-◌}
 use native.Mathlib.Omega.{arith}
-use Rattle.writing.proofs.Stores.{Placed, placed-none, placed_room, placed_more, placed_all, choice_at, choices_at}
-use borrow.Author.Rules.{rules}
+use Rattle.writing.proofs.Stores.{placed-none, placed_room, placed_more, placed_all, choice_at, choices_at}
 use Rattle.writing.proofs.put_choices.Goals as goal
 
 pub loop-i-init : goal.loop-i-init

@@ -1,7 +1,6 @@
 use mathlib.Core.Path.{◌≡◌, ap}
 use native.Mathlib.Omega.{arith}
 use lib.ListN.{length}
-use borrow.Author.Tests.{not-true, not-false}
 use Rattle.writing.proofs.Stores.{stored_absent, present}
 use borrow.Author.Rules.{rules}
 use Rattle.writing.proofs.put_if.Goals as goal

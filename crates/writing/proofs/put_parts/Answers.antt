@@ -1,11 +1,7 @@
-use Prim.Native.Nat.{◌-◌}
-use mathlib.Core.List.{[], ◌∷◌}
 use native.Mathlib.Omega.{arith}
-use Rattle.dealing.specs.Part.{part_record}
 use Rattle.dealing.proofs.Parts.{parts_le}
 use Rattle.led.proofs.Kept.{held_fits}
-use Rattle.writing.proofs.Stores.{Placed, placed-none, placed_room, placed_more, placed_all}
-use borrow.Author.Rules.{rules}
+use Rattle.writing.proofs.Stores.{placed-none, placed_room, placed_more, placed_all}
 use Rattle.writing.proofs.put_parts.Goals as goal
 
 pub loop-n-init : goal.loop-n-init

@@ -1,5 +1,4 @@
 use Rattle.writing.proofs.Whole.{table_room, seats_room, parts_room, choices_room, all_stored}
-use borrow.Author.Rules.{rules}
 use Rattle.writing.proofs.put_records.Goals as goal
 
 pub put_if-seats-requires : goal.put_if-seats-requires

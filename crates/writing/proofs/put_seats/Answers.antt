@@ -1,9 +1,4 @@
-use Prim.Native.Nat.{◌-◌}
-use Rattle.seating.specs.Seat.{seat_record}
-use Rattle.records.specs.Seats.{plays}
-use Rattle.led.specs.Records.{only}
-use Rattle.writing.proofs.Stores.{Placed, placed-none, placed_room, placed_more, placed_all}
-use borrow.Author.Rules.{rules}
+use Rattle.writing.proofs.Stores.{placed-none, placed_room, placed_more, placed_all}
 use Rattle.writing.proofs.put_seats.Goals as goal
 
 pub loop-k-init : goal.loop-k-init

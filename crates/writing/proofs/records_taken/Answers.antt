@@ -1,13 +1,11 @@
 use mathlib.Core.Path.{sym, ◌∙◌}
 use native.Mathlib.Omega.{arith}
-use borrow.Author.Tests.{not-true, not-false}
 use Rattle.counting.specs.Count.{sum_below}
 use Rattle.counting.proofs.Ranges.{tally_le}
 use Rattle.records.specs.Seats.{plays}
 use Rattle.holding.specs.Deal.{playing_before}
 use Rattle.choosing.specs.Streets.{choices_taken}
 use Rattle.led.specs.Records.{records_taken}
-use borrow.Author.Rules.{rules}
 use Rattle.writing.proofs.records_taken.Goals as goal
 
 pub overflow_add-rest-2 : goal.overflow_add-rest-2

@@ -1,7 +1,6 @@
 use native.Mathlib.Omega.{arith}
 use Rattle.seating.specs.Seat.{seat_record}
 use Rattle.writing.proofs.Seats.{low_wagers}
-use borrow.Author.Rules.{rules}
 use Rattle.writing.proofs.seat_record.Goals as goal
 
 pub overflow_cast-ante : goal.overflow_cast-ante

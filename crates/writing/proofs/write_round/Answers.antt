@@ -1,7 +1,5 @@
 use mathlib.Core.Path.{sym, ◌∙◌}
-use borrow.Author.Tests.{not-true, not-false}
 use Rattle.writing.proofs.Answers.{not_held, held, no_table_lem, just_long, wrong_room, all_written}
-use borrow.Author.Rules.{rules}
 use Rattle.writing.proofs.write_round.Goals as goal
 
 pub returns-then-not-is_held : goal.returns-then-not-is_held

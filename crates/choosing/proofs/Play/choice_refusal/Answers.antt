@@ -1,10 +1,9 @@
 use Prim.Native.Nat.{◌≤◌, ◌<◌}
 use mathlib.Core.Path.{sym, ap, ◌∙◌}
 use native.Mathlib.Omega.{arith}
-use borrow.Author.Tests.{not-true, not-false, le-leb, lt-leb}
+use borrow.Author.Tests.{le-leb, lt-leb}
 use Rattle.records.specs.Bytes.{byte, between}
 use Rattle.choosing.specs.Choice.{choice_refusal}
-use borrow.Author.Rules.{rules}
 use Rattle.choosing.proofs.Play.choice_refusal.Goals as goal
 
 pub returns-then-not-is_zero_from : goal.returns-then-not-is_zero_from

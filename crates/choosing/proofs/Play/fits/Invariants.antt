@@ -1,11 +1,8 @@
 use Prim.Native.Nat.{◌≤◌, ◌-◌}
-use mathlib.Core.Path.{◌≡◌, sym, ◌∙◌}
+use mathlib.Core.Path.{◌≡◌}
 use mathlib.Core.Bool.{true}
-use borrow.Author.Tests.{not-true, not-false}
 use Rattle.counting.specs.Count.{every_below}
-use Rattle.counting.proofs.Ranges.{every_none, every_more, every_done, every_broken}
-use Rattle.choosing.specs.Slots.{street_fits, play_fits}
-use borrow.Author.Rules.{rules}
+use Rattle.choosing.specs.Slots.{street_fits}
 use Rattle.choosing.proofs.Play.fits.Given as goal
 
 abbrev pub invariant-loop-s : goal.invariant-loop-s

@@ -1,7 +1,4 @@
-use Prim.Native.Nat.{◌≤◌, ◌-◌}
-use mathlib.Core.Path.{◌≡◌, sym, ◌∙◌}
-use mathlib.Core.Bool.{false}
-use Rattle.counting.specs.Count.{some_below}
+use mathlib.Core.Path.{sym, ◌∙◌}
 use Rattle.counting.proofs.Ranges.{some_none, some_more, some_done, some_here}
 use Rattle.choosing.specs.Streets.{has_to_choose, is_open}
 use borrow.Author.Rules.{rules}

@@ -1,10 +1,8 @@
 use Prim.Native.Nat.{◌≤◌, ◌-◌}
-use mathlib.Core.Path.{◌≡◌, sym, ◌∙◌}
+use mathlib.Core.Path.{◌≡◌}
 use mathlib.Core.Bool.{false}
 use Rattle.counting.specs.Count.{some_below}
-use Rattle.counting.proofs.Ranges.{some_none, some_more, some_done, some_here}
-use Rattle.choosing.specs.Streets.{has_to_choose, is_open}
-use borrow.Author.Rules.{rules}
+use Rattle.choosing.specs.Streets.{has_to_choose}
 use Rattle.choosing.proofs.Play.is_open.Given as goal
 
 abbrev pub invariant-loop-k : goal.invariant-loop-k

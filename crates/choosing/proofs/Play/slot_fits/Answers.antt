@@ -1,5 +1,4 @@
 use Rattle.choosing.specs.Slots.{slot_fits}
-use borrow.Author.Rules.{rules}
 use Rattle.choosing.proofs.Play.slot_fits.Goals as goal
 
 pub returns : goal.returns

@@ -1,6 +1,5 @@
 use mathlib.Core.Path.{refl, sym, ◌∙◌}
 use borrow.Author.Tests.{eq-eqb, ne_eqb}
-use borrow.Author.Rules.{rules}
 use Rattle.choosing.proofs.Play.standing_refusal.Goals as goal
 
 pub returns-then-at7-eq0 : goal.returns-then-at7-eq0

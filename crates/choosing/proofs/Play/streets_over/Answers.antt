@@ -1,6 +1,5 @@
 use mathlib.Core.Path.{refl, sym, ◌∙◌}
 use Rattle.choosing.specs.Streets.{streets_over}
-use borrow.Author.Rules.{rules}
 use Rattle.choosing.proofs.Play.streets_over.Goals as goal
 
 pub returns-then-is_open : goal.returns-then-is_open

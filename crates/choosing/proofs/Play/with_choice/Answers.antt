@@ -1,6 +1,5 @@
 use native.Mathlib.Omega.{arith}
 use Rattle.choosing.proofs.Street.{streets_le}
-use borrow.Author.Rules.{rules}
 use Rattle.choosing.proofs.Play.with_choice.Goals as goal
 
 pub chosen_on-requires : goal.chosen_on-requires

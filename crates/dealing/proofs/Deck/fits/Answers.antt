@@ -1,7 +1,6 @@
 use mathlib.Core.Path.{sym, ◌∙◌}
 use Rattle.cards.proofs.Decks.{faulty_whole}
 use Rattle.dealing.specs.Part.{deck_fits}
-use borrow.Author.Rules.{rules}
 use Rattle.dealing.proofs.Deck.fits.Goals as goal
 
 pub returns : goal.returns

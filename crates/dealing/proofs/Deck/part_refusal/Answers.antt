@@ -1,9 +1,8 @@
 use Prim.Native.Nat.{◌*◌}
 use mathlib.Core.Path.{sym, ap, ◌∙◌}
-use borrow.Author.Tests.{eq-eqb, ne_eqb, not-true, not-false}
+use borrow.Author.Tests.{eq-eqb, ne_eqb}
 use Rattle.cards.specs.Deck.{faulty_from}
 use Rattle.dealing.specs.Part.{dealt, part_faulty, part_refusal}
-use borrow.Author.Rules.{rules}
 use Rattle.dealing.proofs.Deck.part_refusal.Goals as goal
 
 pub returns-then-not-is_zero_from : goal.returns-then-not-is_zero_from

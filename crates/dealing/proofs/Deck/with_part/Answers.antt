@@ -1,6 +1,5 @@
 use borrow.Author.Tests.{lt-ltb, le-ltb}
 use Rattle.dealing.specs.Part.{with_part}
-use borrow.Author.Rules.{rules}
 use Rattle.dealing.proofs.Deck.with_part.Goals as goal
 
 pub returns-then-self-lt4 : goal.returns-then-self-lt4

@@ -2,7 +2,6 @@ use mathlib.Core.Path.{sym, ap, ◌∙◌}
 use lib.Dec.{eqb}
 use borrow.Author.Tests.{ne_eqb}
 use Rattle.round.specs.Feed.{kind_refusal}
-use borrow.Author.Rules.{rules}
 use Rattle.round.proofs.Round.kind_refusal.Goals as goal
 
 pub returns-in-1 : goal.returns-in-1

@@ -1,7 +1,6 @@
 use mathlib.Core.Path.{refl}
 use borrow.Author.Tests.{ne_eqb}
 use Rattle.round.specs.Order.{may_come}
-use borrow.Author.Rules.{rules}
 use Rattle.round.proofs.Round.may_come.Goals as goal
 
 pub returns-in-1 : goal.returns-in-1

@@ -1,7 +1,6 @@
 use mathlib.Core.Path.{sym, ap, ◌∙◌}
 use borrow.Author.Tests.{eq-eqb, ne_eqb}
 use Rattle.round.specs.Feed.{next, with_table, with_wagers, with_deck, with_play}
-use borrow.Author.Rules.{rules}
 use Rattle.round.proofs.Round.next.Goals as goal
 
 pub returns-then-kind-eq1 : goal.returns-then-kind-eq1

@@ -1,5 +1,5 @@
 use mathlib.Core.Path.{refl, sym, ap, ◌∙◌}
-use borrow.Author.Tests.{eq-eqb, ne_eqb, not-true, not-false}
+use borrow.Author.Tests.{eq-eqb, ne_eqb}
 use Rattle.round.specs.Order.{may_come}
 use Rattle.round.specs.Feed.{refusal}
 use Rattle.round.proofs.Round.refusal.Goals as goal

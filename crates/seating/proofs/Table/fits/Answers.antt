@@ -1,5 +1,4 @@
 use Rattle.seating.specs.Table.{table_fits}
-use borrow.Author.Rules.{rules}
 use Rattle.seating.proofs.Table.fits.Goals as goal
 
 pub returns : goal.returns

@@ -1,5 +1,4 @@
 use Rattle.seating.specs.Table.{limits_fit}
-use borrow.Author.Rules.{rules}
 use Rattle.seating.proofs.Table.limits_fit.Goals as goal
 
 pub returns : goal.returns

@@ -1,6 +1,5 @@
 use borrow.Author.Tests.{eq-eqb, ne_eqb}
 use Rattle.seating.specs.Seat.{most_six}
-use borrow.Author.Rules.{rules}
 use Rattle.seating.proofs.Table.most_six.Goals as goal
 
 pub returns-then-self-eq0 : goal.returns-then-self-eq0

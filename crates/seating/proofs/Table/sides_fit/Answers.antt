@@ -1,4 +1,3 @@
-use borrow.Author.Rules.{rules}
 use Rattle.seating.proofs.Table.sides_fit.Goals as goal
 
 pub returns : goal.returns

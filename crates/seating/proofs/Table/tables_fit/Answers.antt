@@ -1,5 +1,4 @@
 use Rattle.seating.specs.Table.{tables_fit}
-use borrow.Author.Rules.{rules}
 use Rattle.seating.proofs.Table.tables_fit.Goals as goal
 
 pub returns : goal.returns

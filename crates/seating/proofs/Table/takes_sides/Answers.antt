@@ -1,4 +1,3 @@
-use borrow.Author.Rules.{rules}
 use Rattle.seating.proofs.Table.takes_sides.Goals as goal
 
 pub returns : goal.returns

@@ -1,11 +1,8 @@
 use Prim.Native.Nat.{◌≤◌, ◌-◌}
-use mathlib.Core.Path.{◌≡◌, sym, ◌∙◌}
+use mathlib.Core.Path.{◌≡◌}
 use mathlib.Core.Bool.{true}
-use borrow.Author.Tests.{not-true, not-false}
 use Rattle.counting.specs.Count.{every_below}
-use Rattle.counting.proofs.Ranges.{every_none, every_more, every_done, every_broken}
-use Rattle.seating.specs.Seat.{seat_fits, seats_fit}
-use borrow.Author.Rules.{rules}
+use Rattle.seating.specs.Seat.{seat_fits}
 use Rattle.seating.proofs.Wagers.fit.Given as goal
 
 abbrev pub invariant-loop-k : goal.invariant-loop-k

@@ -1,5 +1,4 @@
 use Rattle.seating.specs.Seat.{no_wager, wagers_fit}
-use borrow.Author.Rules.{rules}
 use Rattle.seating.proofs.Wagers.seat_fits.Goals as goal
 
 pub returns : goal.returns

@@ -1,9 +1,7 @@
 use mathlib.Core.Path.{◌≡◌, refl, sym, ◌∙◌}
 use mathlib.Core.Bool.{false}
-use borrow.Author.Tests.{not-true, not-false}
 use Rattle.records.specs.Bytes.{zero_from}
 use Rattle.seating.specs.Seat.{seat_refusal}
-use borrow.Author.Rules.{rules}
 use Rattle.seating.proofs.Wagers.seat_refusal.Goals as goal
 
 pub returns-then-not-is_zero_from : goal.returns-then-not-is_zero_from
