@@ -1,4 +1,4 @@
-// Calls the functions that pads in C and in Rust link, each on inputs that are answered and on inputs that are refused. Those that settle a shift are called by `nights`.
+// Calls the functions behind those that pads in C and in Rust link, each on inputs that are answered and on inputs that are refused. Those that settle a shift are called by `nights`.
 //
 // Standard input is the round file of document 01. Printed is a line for each call: the answer, then what is told in what was lent, where 7 stood before. The file
 // is settled whole (`file`), without its last byte (`odd`), without its table (`late`), and into 28 numbers: the number, the pool, the place, the list. Then comes
