@@ -131,37 +131,37 @@ fn tally(entry: u8, size: usize, hands: u64) -> [u64; 16]
 }
 
 // The counts of the first rows, on one line.
-fn write_counts(words: &[u8], counts: [u64; 16], rows: usize) -> bool
+fn write_counts(rt: &(impl Print + Eprint), words: &[u8], counts: [u64; 16], rows: usize) -> bool
     requires { rows ≤ 16 }
 {
     let mut line = [0u8; 512];
     let last = put_line(&mut line, 0, words, &counts[0..rows]);
-    print(&NAME, &line, last)
+    print(rt, &NAME, &line, last)
 }
 
 // A line for each entry: how many hands have each name, from the highest, and how many are refused.
-fn ask_all() -> Outcome {
-    if !write_counts(b"five cards:", tally(FIVE, 5, 2598960), 12) {
+fn ask_all(rt: &(impl Print + Eprint)) -> Outcome {
+    if !write_counts(rt, b"five cards:", tally(FIVE, 5, 2598960), 12) {
         return Outcome::Fault;
     }
-    if !write_counts(b"Lo Ball:", tally(LO, 5, 2598960), 15) {
+    if !write_counts(rt, b"Lo Ball:", tally(LO, 5, 2598960), 15) {
         return Outcome::Fault;
     }
-    if !write_counts(b"board:", tally(BOARD, 3, 22100), 8) {
+    if !write_counts(rt, b"board:", tally(BOARD, 3, 22100), 8) {
         return Outcome::Fault;
     }
-    if !write_counts(b"pocket:", tally(POCKET, 2, 1326), 6) {
+    if !write_counts(rt, b"pocket:", tally(POCKET, 2, 1326), 6) {
         return Outcome::Fault;
     }
-    if !write_counts(b"All-Six:", tally(SIX, 6, 20358520), 14) {
+    if !write_counts(rt, b"All-Six:", tally(SIX, 6, 20358520), 14) {
         return Outcome::Fault;
     }
     Outcome::Done
 }
 
-fn main() {
-    let call = called(&NAME, false);
+fn main(rt: HostRuntime) {
+    let call = called(&rt, &NAME, false);
     if call.sound {
-        end(&NAME, call, ask_all());
+        end(&rt, &NAME, call, ask_all(&rt));
     }
 }

@@ -1,4 +1,4 @@
-// Calls the functions that pads in C and in Rust link, each on inputs that are answered and on inputs that are refused. Those that settle a shift are called by `nights`.
+// Calls the functions behind those that pads in C and in Rust link, each on inputs that are answered and on inputs that are refused. Those that settle a shift are called by `nights`.
 //
 // Standard input is the round file of document 01. Printed is a line for each call: the answer, then what is told in what was lent, where 7 stood before. The file
 // is settled whole (`file`), without its last byte (`odd`), without its table (`late`), and into 28 numbers: the number, the pool, the place, the list. Then comes
@@ -39,22 +39,28 @@ const LINE: usize = 1024;
 // What stands in what is lent, before.
 const BEFORE: u64 = 7;
 
-fn write_numbers(what: &[u8], numbers: &[u64]) -> bool {
+fn write_numbers(rt: &(impl Print + Eprint), what: &[u8], numbers: &[u64]) -> bool {
     let mut line = [0u8; LINE];
     let last = put_line(&mut line, 0, what, numbers);
-    print(&NAME, &line, last)
+    print(rt, &NAME, &line, last)
 }
 
 // The answer, what is told besides, and what the lent list then holds.
-fn write_list(what: &[u8], number: u8, told: &[u64], list: &[u64]) -> bool {
+fn write_list(
+    rt: &(impl Print + Eprint),
+    what: &[u8],
+    number: u8,
+    told: &[u64],
+    list: &[u64],
+) -> bool {
     let mut line = [0u8; LINE];
     let answered = put_list(&mut line, 0, what, &[number as u64]);
     let besides = put_list(&mut line, answered, b"", told);
     let last = put_line(&mut line, besides, b", list", list);
-    print(&NAME, &line, last)
+    print(rt, &NAME, &line, last)
 }
 
-fn ask_settle(what: &[u8], file: &[u8], room: usize) -> bool
+fn ask_settle(rt: &(impl Print + Eprint), what: &[u8], file: &[u8], room: usize) -> bool
     requires { room ≤ 35 }
 {
     let mut results = [BEFORE; 35];
@@ -63,225 +69,231 @@ fn ask_settle(what: &[u8], file: &[u8], room: usize) -> bool
     let mut paid = BEFORE;
     let mut place = 7;
     let number = ripplehatch_settle_file(file, lent, &mut full, &mut paid, &mut place);
-    write_list(what, number, &[full, paid, place as u64], lent)
+    write_list(rt, what, number, &[full, paid, place as u64], lent)
 }
 
-fn ask_part(what: &[u8], file: &[u8]) -> bool {
+fn ask_part(rt: &(impl Print + Eprint), what: &[u8], file: &[u8]) -> bool {
     let mut long = 7;
     let begins = ripplehatch_refused_part(file, &mut long);
-    write_numbers(what, &[begins as u64, long as u64])
+    write_numbers(rt, what, &[begins as u64, long as u64])
 }
 
-fn ask_take(held: &[u8], bytes: &[u8]) -> bool {
+fn ask_take(rt: &(impl Print + Eprint), held: &[u8], bytes: &[u8]) -> bool {
     let mut finished = 7u8;
     let number = ripplehatch_take(held, bytes, &mut finished);
-    write_numbers(b"take", &[number as u64, finished as u64])
+    write_numbers(rt, b"take", &[number as u64, finished as u64])
 }
 
 // The answer, and the bytes of the room.
-fn write_room(number: u8, room: &[u8]) -> bool {
+fn write_room(rt: &(impl Print + Eprint), number: u8, room: &[u8]) -> bool {
     let mut line = [0u8; LINE];
     let answered = put_list(&mut line, 0, b"write", &[number as u64]);
     let told = put_bytes(&mut line, answered, b", room ");
     let spelled = put_digits(&mut line, told, room);
     let last = put_bytes(&mut line, spelled, b"\n");
-    print(&NAME, &line, last)
+    print(rt, &NAME, &line, last)
 }
 
-fn ask_write(held: &[u8], room: usize) -> bool
+fn ask_write(rt: &(impl Print + Eprint), held: &[u8], room: usize) -> bool
     requires { room ≤ 16 }
 {
     let mut bytes = [7u8; 16];
     let lent: &mut [u8] = &mut bytes[0..room];
     let number = ripplehatch_write(held, lent);
-    write_room(number, lent)
+    write_room(rt, number, lent)
 }
 
-fn ask_name(what: &[u8], cards: &[u8]) -> bool {
+fn ask_name(rt: &(impl Print + Eprint), what: &[u8], cards: &[u8]) -> bool {
     let mut name = 7;
     let number = ripplehatch_name_five(cards, &mut name);
-    write_numbers(what, &[number as u64, name as u64])
+    write_numbers(rt, what, &[number as u64, name as u64])
 }
 
-fn ask_lo(what: &[u8], cards: &[u8]) -> bool {
+fn ask_lo(rt: &(impl Print + Eprint), what: &[u8], cards: &[u8]) -> bool {
     let mut high = 7;
     let number = ripplehatch_name_lo(cards, &mut high);
-    write_numbers(what, &[number as u64, high as u64])
+    write_numbers(rt, what, &[number as u64, high as u64])
 }
 
-fn ask_six(what: &[u8], cards: &[u8]) -> bool {
+fn ask_six(rt: &(impl Print + Eprint), what: &[u8], cards: &[u8]) -> bool {
     let mut name = 7;
     let number = ripplehatch_name_six(cards, &mut name);
-    write_numbers(what, &[number as u64, name as u64])
+    write_numbers(rt, what, &[number as u64, name as u64])
 }
 
-fn ask_share(what: &[u8], wins: &[u64], maximum: u64, room: usize) -> bool
+fn ask_share(
+    rt: &(impl Print + Eprint),
+    what: &[u8],
+    wins: &[u64],
+    maximum: u64,
+    room: usize,
+) -> bool
     requires { room ≤ 3 }
 {
     let mut shares = [BEFORE; 3];
     let lent: &mut [u64] = &mut shares[0..room];
     let number = ripplehatch_share(wins, maximum, lent);
-    write_list(what, number, &[], lent)
+    write_list(rt, what, number, &[], lent)
 }
 
-fn ask_files(file: [u8; WHOLE]) -> bool {
-    if !ask_settle(b"file", &file, 35) {
+fn ask_files(rt: &(impl Print + Eprint), file: [u8; WHOLE]) -> bool {
+    if !ask_settle(rt, b"file", &file, 35) {
         return false;
     }
-    if !ask_settle(b"odd", &file[0..207], 35) {
+    if !ask_settle(rt, b"odd", &file[0..207], 35) {
         return false;
     }
-    if !ask_settle(b"late", &file[16..208], 35) {
+    if !ask_settle(rt, b"late", &file[16..208], 35) {
         return false;
     }
-    ask_settle(b"file", &file, 28)
+    ask_settle(rt, b"file", &file, 28)
 }
 
-fn ask_parts(file: [u8; WHOLE]) -> bool {
-    if !ask_part(b"part", &file) {
+fn ask_parts(rt: &(impl Print + Eprint), file: [u8; WHOLE]) -> bool {
+    if !ask_part(rt, b"part", &file) {
         return false;
     }
-    if !ask_part(b"part", &file[0..207]) {
+    if !ask_part(rt, b"part", &file[0..207]) {
         return false;
     }
-    ask_part(b"part", &file[16..208])
+    ask_part(rt, b"part", &file[16..208])
 }
 
-fn ask_refused(file: [u8; WHOLE], more: [u8; WHOLE]) -> bool {
-    if !ask_take(&file[0..192], &more[176..192]) {
+fn ask_refused(rt: &(impl Print + Eprint), file: [u8; WHOLE], more: [u8; WHOLE]) -> bool {
+    if !ask_take(rt, &file[0..192], &more[176..192]) {
         return false;
     }
-    if !ask_take(&file[0..192], &more[192..207]) {
+    if !ask_take(rt, &file[0..192], &more[192..207]) {
         return false;
     }
-    if !ask_take(&file, &more[192..208]) {
+    if !ask_take(rt, &file, &more[192..208]) {
         return false;
     }
-    ask_take(&file[0..207], &more[192..208])
+    ask_take(rt, &file[0..207], &more[192..208])
 }
 
 // The records are handed from a copy of the file.
-fn ask_held(file: [u8; WHOLE], more: [u8; WHOLE]) -> bool {
-    if !ask_take(&file[0..0], &more[0..16]) {
+fn ask_held(rt: &(impl Print + Eprint), file: [u8; WHOLE], more: [u8; WHOLE]) -> bool {
+    if !ask_take(rt, &file[0..0], &more[0..16]) {
         return false;
     }
-    if !ask_take(&file[0..192], &more[192..208]) {
+    if !ask_take(rt, &file[0..192], &more[192..208]) {
         return false;
     }
-    ask_refused(file, more)
+    ask_refused(rt, file, more)
 }
 
-fn ask_written(file: [u8; WHOLE]) -> bool {
-    if !ask_write(&file[0..16], 16) {
+fn ask_written(rt: &(impl Print + Eprint), file: [u8; WHOLE]) -> bool {
+    if !ask_write(rt, &file[0..16], 16) {
         return false;
     }
-    if !ask_write(&file[0..16], 15) {
+    if !ask_write(rt, &file[0..16], 15) {
         return false;
     }
-    if !ask_write(&file[0..0], 0) {
+    if !ask_write(rt, &file[0..0], 0) {
         return false;
     }
-    ask_write(&file[16..32], 16)
+    ask_write(rt, &file[16..32], 16)
 }
 
-fn ask_names() -> bool {
-    if !ask_name(b"name", &[50, 46, 34, 38, 42]) {
+fn ask_names(rt: &(impl Print + Eprint)) -> bool {
+    if !ask_name(rt, b"name", &[50, 46, 34, 38, 42]) {
         return false;
     }
-    if !ask_name(b"name", &[26, 30, 34, 38, 42]) {
+    if !ask_name(rt, b"name", &[26, 30, 34, 38, 42]) {
         return false;
     }
-    if !ask_name(b"name", &[50, 50, 34, 38, 42]) {
+    if !ask_name(rt, b"name", &[50, 50, 34, 38, 42]) {
         return false;
     }
-    ask_name(b"name", &[50, 50, 34, 38])
+    ask_name(rt, b"name", &[50, 50, 34, 38])
 }
 
-fn ask_los() -> bool {
-    if !ask_lo(b"lo", &[0, 5, 10, 15, 20]) {
+fn ask_los(rt: &(impl Print + Eprint)) -> bool {
+    if !ask_lo(rt, b"lo", &[0, 5, 10, 15, 20]) {
         return false;
     }
-    if !ask_lo(b"lo", &[0, 5, 10, 15, 16]) {
+    if !ask_lo(rt, b"lo", &[0, 5, 10, 15, 16]) {
         return false;
     }
-    if !ask_lo(b"lo", &[0, 5, 10, 15, 0]) {
+    if !ask_lo(rt, b"lo", &[0, 5, 10, 15, 0]) {
         return false;
     }
-    ask_lo(b"lo", &[0, 5, 10, 0])
+    ask_lo(rt, b"lo", &[0, 5, 10, 0])
 }
 
-fn ask_sixes() -> bool {
-    if !ask_six(b"six", &[29, 33, 37, 41, 45, 49]) {
+fn ask_sixes(rt: &(impl Print + Eprint)) -> bool {
+    if !ask_six(rt, b"six", &[29, 33, 37, 41, 45, 49]) {
         return false;
     }
-    if !ask_six(b"six", &[30, 34, 38, 42, 46, 50]) {
+    if !ask_six(rt, b"six", &[30, 34, 38, 42, 46, 50]) {
         return false;
     }
-    if !ask_six(b"six", &[26, 30, 34, 38, 42, 46]) {
+    if !ask_six(rt, b"six", &[26, 30, 34, 38, 42, 46]) {
         return false;
     }
-    if !ask_six(b"six", &[29, 33, 37, 41, 45, 29]) {
+    if !ask_six(rt, b"six", &[29, 33, 37, 41, 45, 29]) {
         return false;
     }
-    ask_six(b"six", &[29, 33, 37, 41, 45])
+    ask_six(rt, b"six", &[29, 33, 37, 41, 45])
 }
 
-fn ask_shares() -> bool {
+fn ask_shares(rt: &(impl Print + Eprint)) -> bool {
     let wins = [20000u64, 10000, 500];
-    if !ask_share(b"share", &wins, 25000, 3) {
+    if !ask_share(rt, b"share", &wins, 25000, 3) {
         return false;
     }
-    if !ask_share(b"share", &wins, 25000, 2) {
+    if !ask_share(rt, b"share", &wins, 25000, 2) {
         return false;
     }
-    ask_share(b"share", &wins, 75001, 3)
+    ask_share(rt, b"share", &wins, 75001, 3)
 }
 
 // Stops at the first line that can't be written.
-fn ask_all(file: [u8; WHOLE]) -> Outcome {
-    if !ask_files(file) {
+fn ask_all(rt: &(impl Print + Eprint), file: [u8; WHOLE]) -> Outcome {
+    if !ask_files(rt, file) {
         return Outcome::Fault;
     }
-    if !ask_parts(file) {
+    if !ask_parts(rt, file) {
         return Outcome::Fault;
     }
-    if !ask_held(file, file) {
+    if !ask_held(rt, file, file) {
         return Outcome::Fault;
     }
-    if !ask_written(file) {
+    if !ask_written(rt, file) {
         return Outcome::Fault;
     }
-    if !ask_names() {
+    if !ask_names(rt) {
         return Outcome::Fault;
     }
-    if !ask_los() {
+    if !ask_los(rt) {
         return Outcome::Fault;
     }
-    if !ask_sixes() {
+    if !ask_sixes(rt) {
         return Outcome::Fault;
     }
-    if !ask_shares() {
+    if !ask_shares(rt) {
         return Outcome::Fault;
     }
     Outcome::Done
 }
 
-fn asked() -> Outcome {
+fn asked(rt: &(impl Input + Print + Eprint)) -> Outcome {
     let mut file = [0u8; WHOLE];
-    let got = read_all(&NAME, &mut file, b"reads a file of 208 bytes");
+    let got = read_all(rt, &NAME, &mut file, b"reads a file of 208 bytes");
     if got.failed {
         return Outcome::Fault;
     }
     if got.bytes < WHOLE {
-        tell(&NAME, b"reads a file of 208 bytes");
+        tell(rt, &NAME, b"reads a file of 208 bytes");
         return Outcome::Fault;
     }
-    ask_all(file)
+    ask_all(rt, file)
 }
 
-fn main() {
-    let call = called(&NAME, true);
+fn main(rt: HostRuntime) {
+    let call = called(&rt, &NAME, true);
     if call.sound {
-        end(&NAME, call, asked());
+        end(&rt, &NAME, call, asked(&rt));
     }
 }

@@ -21,6 +21,7 @@ use columns::{line_end, number_at, numbers_of};
 use pipes::{Outcome, called, end, read_all, tell_unwritten, write_out};
 use records::byte_at;
 use round::{Answer, Round};
+use std::io::Result;
 use text::{put_bytes, put_line, up_to};
 
 const NAME: [u8; 7] = *b"feeding";
@@ -31,13 +32,6 @@ struct AfterLine {
     round: Round,
     tail: [u8; 32],
     last: usize,
-}
-
-// The round that is held after a line, and whether what there was to print could be written.
-#[derive(Clone, Copy)]
-struct Printed {
-    round: Round,
-    written: bool,
 }
 
 fn put_answer(tail: &mut [u8], answer: Answer) -> usize {
@@ -93,56 +87,49 @@ fn after_line(round: Round, line: &[u8]) -> AfterLine {
     unfed(changed(round, first, a, b, c))
 }
 
-fn write_line(line: &[u8], tail: [u8; 32], last: usize) -> bool {
-    if !write_out(line) {
-        return false;
-    }
-    write_out(up_to(&tail, last))
+fn write_line(rt: &impl Print, line: &[u8], tail: [u8; 32], last: usize) -> Result<()> {
+    write_out(rt, line)?;
+    write_out(rt, up_to(&tail, last))
 }
 
-// Prints the line as it is, then what comes behind it.
-fn feed_line(round: Round, line: &[u8]) -> Printed {
+// Prints the line as it is, then what comes behind it. Answers the round that is held after it.
+fn feed_line(rt: &impl Print, round: Round, line: &[u8]) -> Result<Round> {
     let after = after_line(round, line);
     let next = after.round;
     let tail = after.tail;
-    Printed {
-        round: next,
-        written: write_line(line, tail, after.last),
-    }
+    write_line(rt, line, tail, after.last)?;
+    Ok(next)
 }
 
-fn feed_lines(text: &[u8]) -> bool {
+fn feed_lines(rt: &impl Print, text: &[u8]) -> Result<()> {
     let mut round = Round::fresh();
     let mut at = 0;
     while at < text.len() {
         let end = line_end(text, at);
-        let printed = feed_line(round, &text[at..end]);
-        if !printed.written {
-            return false;
-        }
-        let next = printed.round;
-        round = next;
+        round = feed_line(rt, round, &text[at..end])?;
         at = end + 1;
     }
-    true
+    Ok(())
 }
 
-fn run() -> Outcome {
-    let mut text = io::large_buffer();
-    let got = read_all(&NAME, &mut text, b"reads at most 65,536 bytes");
+fn run(rt: &(impl Input + Print + Eprint)) -> Outcome {
+    let mut text = [0u8; 65536];
+    let got = read_all(rt, &NAME, &mut text, b"reads at most 65,536 bytes");
     if got.failed {
         return Outcome::Fault;
     }
-    if feed_lines(&text[..got.bytes]) {
-        return Outcome::Done;
+    match feed_lines(rt, &text[..got.bytes]) {
+        Ok(()) => Outcome::Done,
+        Err(error) => {
+            tell_unwritten(rt, &NAME, error);
+            Outcome::Fault
+        }
     }
-    tell_unwritten(&NAME);
-    Outcome::Fault
 }
 
-fn main() {
-    let call = called(&NAME, true);
+fn main(rt: HostRuntime) {
+    let call = called(&rt, &NAME, true);
     if call.sound {
-        end(&NAME, call, run());
+        end(&rt, &NAME, call, run(&rt));
     }
 }

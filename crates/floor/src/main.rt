@@ -22,6 +22,7 @@ use demands::sure_of;
 use pipes::{Outcome, called, end, read_all, tell_unwritten, write_out};
 use records::{byte_at, is_between};
 use seating::Table;
+use std::io::Result;
 use text::{put_bytes, put_named, up_to};
 
 const NAME: [u8; 5] = *b"floor";
@@ -96,7 +97,7 @@ fn put_sure(line: &mut [u8], at: usize, words: &[u8], sure: u64, win: u32) -> us
 }
 
 // A line has at most 166 bytes, so it fits its room.
-fn tell_floors(table: Table, wager: u16) -> bool {
+fn tell_floors(rt: &impl Print, table: Table, wager: u16) -> Result<()> {
     let straight = 100 * (wager as u32);
     let royal = 500 * (wager as u32);
     let mut line = [0u8; 256];
@@ -118,13 +119,13 @@ fn tell_floors(table: Table, wager: u16) -> bool {
         royal,
     );
     let last = put_bytes(&mut line, second, b"\n");
-    write_out(up_to(&line, last))
+    write_out(rt, up_to(&line, last))
 }
 
-// Says whether what it had to say could be written.
-fn tell_line(line: &[u8]) -> bool {
+// Fails where what it had to say could not be written.
+fn tell_line(rt: &impl Print, line: &[u8]) -> Result<()> {
     if blanks_end(line, 0) == line.len() {
-        return true;
+        return Ok(());
     }
     let smallest = number_from(line, 0);
     let largest = number_from(line, smallest.next);
@@ -132,39 +133,39 @@ fn tell_line(line: &[u8]) -> bool {
     let table = table_of(smallest.value, largest.value);
     let over = blanks_end(line, wager.next) == line.len();
     if table.fits() & wager_fits(table, wager.value) & over {
-        return tell_floors(table, wager.value);
+        return tell_floors(rt, table, wager.value);
     }
-    write_out(b"not a table and a base wager\n")
+    write_out(rt, b"not a table and a base wager\n")
 }
 
-fn tell_lines(text: &[u8]) -> bool {
+fn tell_lines(rt: &impl Print, text: &[u8]) -> Result<()> {
     let mut at = 0;
     while at < text.len() {
         let end = line_end(text, at);
-        if !tell_line(&text[at..end]) {
-            return false;
-        }
+        tell_line(rt, &text[at..end])?;
         at = end + 1;
     }
-    true
+    Ok(())
 }
 
-fn run() -> Outcome {
-    let mut text = io::large_buffer();
-    let got = read_all(&NAME, &mut text, b"reads at most 65,536 bytes");
+fn run(rt: &(impl Input + Print + Eprint)) -> Outcome {
+    let mut text = [0u8; 65536];
+    let got = read_all(rt, &NAME, &mut text, b"reads at most 65,536 bytes");
     if got.failed {
         return Outcome::Fault;
     }
-    if tell_lines(&text[..got.bytes]) {
-        return Outcome::Done;
+    match tell_lines(rt, &text[..got.bytes]) {
+        Ok(()) => Outcome::Done,
+        Err(error) => {
+            tell_unwritten(rt, &NAME, error);
+            Outcome::Fault
+        }
     }
-    tell_unwritten(&NAME);
-    Outcome::Fault
 }
 
-fn main() {
-    let call = called(&NAME, true);
+fn main(rt: HostRuntime) {
+    let call = called(&rt, &NAME, true);
     if call.sound {
-        end(&NAME, call, run());
+        end(&rt, &NAME, call, run(&rt));
     }
 }

@@ -162,7 +162,7 @@ fn put_file(line: &mut [u8], at: usize, answer: WriteAnswer, file: &[u8]) -> usi
 }
 
 // A line is at most 35 amounts of 20 digits, the pool and 33 records, so it fits its room.
-fn answer_round(round: Round, record: &[u8]) -> bool {
+fn answer_round(rt: &(impl Print + Eprint), round: Round, record: &[u8]) -> bool {
     let mut line = [0u8; 2048];
     let step = held::take(round, record);
     let answer = step.answer;
@@ -172,37 +172,37 @@ fn answer_round(round: Round, record: &[u8]) -> bool {
     let settled = put_settled(&mut line, taken, settlement, amounts);
     let written = put_written(&mut line, settled, round);
     let last = put_bytes(&mut line, written, b"\n");
-    print(&NAME, &line, last)
+    print(rt, &NAME, &line, last)
 }
 
-fn answer_item(item: [u8; ITEM]) -> Turn {
-    if answer_round(round_of(&item), &item[158..174]) {
+fn answer_item(rt: &(impl Print + Eprint), item: [u8; ITEM]) -> Turn {
+    if answer_round(rt, round_of(&item), &item[158..174]) {
         return Turn::Answered;
     }
     Turn::Fault
 }
 
-fn answer_next() -> Turn {
+fn answer_next(rt: &(impl Input + Print + Eprint)) -> Turn {
     let mut item = [0u8; ITEM];
-    let got = read_into(&mut item);
+    let got = read_into(rt, &mut item);
     if got.failed {
-        tell_unread(&NAME);
+        tell_unread(rt, &NAME, got.reason);
         return Turn::Fault;
     }
     if got.bytes == 0 {
         return Turn::End;
     }
     if got.bytes < ITEM {
-        tell(&NAME, b"the stream ends inside an item");
+        tell(rt, &NAME, b"the stream ends inside an item");
         return Turn::Fault;
     }
-    answer_item(item)
+    answer_item(rt, item)
 }
 
-fn answer_all() -> Outcome {
+fn answer_all(rt: &(impl Input + Print + Eprint)) -> Outcome {
     let mut items = 0;
     while items < MOST_ITEMS {
-        match answer_next() {
+        match answer_next(rt) {
             Turn::Answered => {}
             Turn::End => return Outcome::Done,
             Turn::Fault => return Outcome::Fault,
@@ -212,9 +212,9 @@ fn answer_all() -> Outcome {
     Outcome::Done
 }
 
-fn main() {
-    let call = called(&NAME, true);
+fn main(rt: HostRuntime) {
+    let call = called(&rt, &NAME, true);
     if call.sound {
-        end(&NAME, call, answer_all());
+        end(&rt, &NAME, call, answer_all(&rt));
     }
 }

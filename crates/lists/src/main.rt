@@ -131,62 +131,80 @@ fn put_written(line: &mut [u8], at: usize, answer: WriteAnswer) -> usize {
 }
 
 // Ends the line with how many numbers of the list were changed, and writes it.
-fn write_changed(mut line: [u8; 128], at: usize, changed: u64) -> bool {
+fn write_changed(rt: &(impl Print + Eprint), mut line: [u8; 128], at: usize, changed: u64) -> bool {
     let last = put_line(&mut line, at, b", changed", &[changed]);
-    print(&NAME, &line, last)
+    print(rt, &NAME, &line, last)
 }
 
-fn write_file(what: &[u8], n: usize, answer: FileSettlement, changed: u64) -> bool {
+fn write_file(
+    rt: &(impl Print + Eprint),
+    what: &[u8],
+    n: usize,
+    answer: FileSettlement,
+    changed: u64,
+) -> bool {
     let mut line = [0u8; 128];
     let asked = put_question(&mut line, what, b", list", n);
     let answered = put_file(&mut line, asked, answer);
-    write_changed(line, answered, changed)
+    write_changed(rt, line, answered, changed)
 }
 
-fn write_held(what: &[u8], n: usize, answer: Settlement, changed: u64) -> bool {
+fn write_held(
+    rt: &(impl Print + Eprint),
+    what: &[u8],
+    n: usize,
+    answer: Settlement,
+    changed: u64,
+) -> bool {
     let mut line = [0u8; 128];
     let asked = put_question(&mut line, what, b", list", n);
     let answered = put_round(&mut line, asked, answer);
-    write_changed(line, answered, changed)
+    write_changed(rt, line, answered, changed)
 }
 
-fn write_written(what: &[u8], n: usize, answer: WriteAnswer, changed: u64) -> bool {
+fn write_written(
+    rt: &(impl Print + Eprint),
+    what: &[u8],
+    n: usize,
+    answer: WriteAnswer,
+    changed: u64,
+) -> bool {
     let mut line = [0u8; 128];
     let asked = put_question(&mut line, what, b", room", n);
     let answered = put_written(&mut line, asked, answer);
-    write_changed(line, answered, changed)
+    write_changed(rt, line, answered, changed)
 }
 
-fn ask_file(what: &[u8], file: &[u8], n: usize) -> bool
+fn ask_file(rt: &(impl Print + Eprint), what: &[u8], file: &[u8], n: usize) -> bool
     requires { n ≤ 36 }
 {
     let mut list = [BEFORE; ROOM];
     let answer = settle_file(file, &mut list[0..n]);
-    write_file(what, n, answer, changed(list))
+    write_file(rt, what, n, answer, changed(list))
 }
 
-fn ask_round(what: &[u8], round: Round, n: usize) -> bool
+fn ask_round(rt: &(impl Print + Eprint), what: &[u8], round: Round, n: usize) -> bool
     requires { n ≤ 36 }
 {
     let mut list = [BEFORE; ROOM];
     let answer = settle(round, &mut list[0..n]);
-    write_held(what, n, answer, changed(list))
+    write_held(rt, what, n, answer, changed(list))
 }
 
-fn ask_rewrite(what: &[u8], file: &[u8], n: usize) -> bool
+fn ask_rewrite(rt: &(impl Print + Eprint), what: &[u8], file: &[u8], n: usize) -> bool
     requires { n ≤ 209 }
 {
     let mut room = [BYTE_BEFORE; BYTES];
     let answer = rewrite_file(file, &mut room[0..n]);
-    write_written(what, n, answer, changed_bytes(room))
+    write_written(rt, what, n, answer, changed_bytes(room))
 }
 
-fn ask_write(what: &[u8], round: Round, n: usize) -> bool
+fn ask_write(rt: &(impl Print + Eprint), what: &[u8], round: Round, n: usize) -> bool
     requires { n ≤ 209 }
 {
     let mut room = [BYTE_BEFORE; BYTES];
     let answer = write_round(round, &mut room[0..n]);
-    write_written(what, n, answer, changed_bytes(room))
+    write_written(rt, what, n, answer, changed_bytes(room))
 }
 
 fn with_a_fifth_part(mut round: Round) -> Round {
@@ -194,107 +212,107 @@ fn with_a_fifth_part(mut round: Round) -> Round {
     round
 }
 
-fn ask_files(file: [u8; WHOLE], n: usize) -> bool
+fn ask_files(rt: &(impl Print + Eprint), file: [u8; WHOLE], n: usize) -> bool
     requires { n ≤ 36 }
 {
-    if !ask_file(b"file", &file, n) {
+    if !ask_file(rt, b"file", &file, n) {
         return false;
     }
-    if !ask_file(b"odd file", &file[0..207], n) {
+    if !ask_file(rt, b"odd file", &file[0..207], n) {
         return false;
     }
-    ask_file(b"empty file", &file[0..0], n)
+    ask_file(rt, b"empty file", &file[0..0], n)
 }
 
 // The round that a file leads to.
-fn ask_read(what: &[u8], file: &[u8], n: usize) -> bool
+fn ask_read(rt: &(impl Print + Eprint), what: &[u8], file: &[u8], n: usize) -> bool
     requires { n ≤ 36 }
 {
-    ask_round(what, read_file(file).round, n)
+    ask_round(rt, what, read_file(file).round, n)
 }
 
-fn ask_changed(what: &[u8], file: &[u8], n: usize) -> bool
+fn ask_changed(rt: &(impl Print + Eprint), what: &[u8], file: &[u8], n: usize) -> bool
     requires { n ≤ 36 }
 {
-    ask_round(what, with_a_fifth_part(read_file(file).round), n)
+    ask_round(rt, what, with_a_fifth_part(read_file(file).round), n)
 }
 
-fn ask_rounds(file: [u8; WHOLE], n: usize) -> bool
+fn ask_rounds(rt: &(impl Print + Eprint), file: [u8; WHOLE], n: usize) -> bool
     requires { n ≤ 36 }
 {
-    if !ask_read(b"round", &file, n) {
+    if !ask_read(rt, b"round", &file, n) {
         return false;
     }
-    if !ask_read(b"fresh round", &file[0..0], n) {
+    if !ask_read(rt, b"fresh round", &file[0..0], n) {
         return false;
     }
-    ask_changed(b"false round", &file, n)
+    ask_changed(rt, b"false round", &file, n)
 }
 
-fn write_files(file: [u8; WHOLE], n: usize) -> bool
+fn write_files(rt: &(impl Print + Eprint), file: [u8; WHOLE], n: usize) -> bool
     requires { n ≤ 209 }
 {
-    if !ask_rewrite(b"file", &file, n) {
+    if !ask_rewrite(rt, b"file", &file, n) {
         return false;
     }
-    if !ask_rewrite(b"odd file", &file[0..207], n) {
+    if !ask_rewrite(rt, b"odd file", &file[0..207], n) {
         return false;
     }
-    ask_rewrite(b"empty file", &file[0..0], n)
+    ask_rewrite(rt, b"empty file", &file[0..0], n)
 }
 
-fn write_rounds(file: [u8; WHOLE], n: usize) -> bool
+fn write_rounds(rt: &(impl Print + Eprint), file: [u8; WHOLE], n: usize) -> bool
     requires { n ≤ 209 }
 {
     let round = read_file(&file).round;
-    if !ask_write(b"round", round, n) {
+    if !ask_write(rt, b"round", round, n) {
         return false;
     }
-    if !ask_write(b"fresh round", Round::fresh(), n) {
+    if !ask_write(rt, b"fresh round", Round::fresh(), n) {
         return false;
     }
-    ask_write(b"false round", with_a_fifth_part(round), n)
+    ask_write(rt, b"false round", with_a_fifth_part(round), n)
 }
 
 // The k-th length of a list, and of a room.
-fn ask_turn(file: [u8; WHOLE], k: u8) -> bool {
-    if !ask_files(file, long(k)) {
+fn ask_turn(rt: &(impl Print + Eprint), file: [u8; WHOLE], k: u8) -> bool {
+    if !ask_files(rt, file, long(k)) {
         return false;
     }
-    if !ask_rounds(file, long(k)) {
+    if !ask_rounds(rt, file, long(k)) {
         return false;
     }
-    if !write_files(file, room_long(k)) {
+    if !write_files(rt, file, room_long(k)) {
         return false;
     }
-    write_rounds(file, room_long(k))
+    write_rounds(rt, file, room_long(k))
 }
 
-fn ask_all(file: [u8; WHOLE]) -> Outcome {
+fn ask_all(rt: &(impl Print + Eprint), file: [u8; WHOLE]) -> Outcome {
     for k in 0..4 {
-        if !ask_turn(file, k) {
+        if !ask_turn(rt, file, k) {
             return Outcome::Fault;
         }
     }
     Outcome::Done
 }
 
-fn run() -> Outcome {
+fn run(rt: &(impl Input + Print + Eprint)) -> Outcome {
     let mut file = [0u8; WHOLE];
-    let got = read_all(&NAME, &mut file, b"reads a file of 208 bytes");
+    let got = read_all(rt, &NAME, &mut file, b"reads a file of 208 bytes");
     if got.failed {
         return Outcome::Fault;
     }
     if got.bytes < WHOLE {
-        tell(&NAME, b"reads a file of 208 bytes");
+        tell(rt, &NAME, b"reads a file of 208 bytes");
         return Outcome::Fault;
     }
-    ask_all(file)
+    ask_all(rt, file)
 }
 
-fn main() {
-    let call = called(&NAME, true);
+fn main(rt: HostRuntime) {
+    let call = called(&rt, &NAME, true);
     if call.sound {
-        end(&NAME, call, run());
+        end(&rt, &NAME, call, run(&rt));
     }
 }

@@ -68,43 +68,49 @@ fn is_kept(list: &[u64]) -> bool {
     true
 }
 
-fn written(line: &[u8], last: usize) -> Turn {
-    if print(&NAME, line, last) {
+fn written(rt: &(impl Print + Eprint), line: &[u8], last: usize) -> Turn {
+    if print(rt, &NAME, line, last) {
         return Turn::Answered;
     }
     Turn::Fault
 }
 
-fn write_refused(count: usize, number: u8, place: usize, kept: bool) -> Turn {
+fn write_refused(
+    rt: &(impl Print + Eprint),
+    count: usize,
+    number: u8,
+    place: usize,
+    kept: bool,
+) -> Turn {
     let mut line = [0u8; 128];
     let counted = put_named(&mut line, 0, b"rounds ", count as u64);
     let numbered = put_named(&mut line, counted, b" refused ", number as u64);
     let placed = put_named(&mut line, numbered, b" at ", place as u64);
     if kept {
         let last = put_bytes(&mut line, placed, b" kept\n");
-        return written(&line, last);
+        return written(rt, &line, last);
     }
     let last = put_bytes(&mut line, placed, b" changed\n");
-    written(&line, last)
+    written(rt, &line, last)
 }
 
 // A line is 37 numbers of at most 20 digits, so it fits its room.
-fn write_round(amounts: &[u64], answer: &[u64]) -> bool {
+fn write_round(rt: &(impl Print + Eprint), amounts: &[u64], answer: &[u64]) -> bool {
     let mut line = [0u8; 1024];
     let told = put_list(&mut line, 0, b"answer", answer);
     let last = put_line(&mut line, told, b" amounts", amounts);
-    print(&NAME, &line, last)
+    print(rt, &NAME, &line, last)
 }
 
 // Both lists have a row for each round.
-fn write_rounds(amounts: &[u64], answers: &[u64]) -> Turn {
+fn write_rounds(rt: &(impl Print + Eprint), amounts: &[u64], answers: &[u64]) -> Turn {
     let mut paid = amounts;
     let mut told = answers;
     while RESULTS <= paid.len() {
         if told.len() < ANSWER {
             return Turn::Fault;
         }
-        if !write_round(&paid[..RESULTS], &told[..ANSWER]) {
+        if !write_round(rt, &paid[..RESULTS], &told[..ANSWER]) {
             return Turn::Fault;
         }
         paid = &paid[RESULTS..];
@@ -113,18 +119,24 @@ fn write_rounds(amounts: &[u64], answers: &[u64]) -> Turn {
     Turn::Answered
 }
 
-fn write_settled(count: usize, rounds: usize, amounts: &[u64], answers: &[u64]) -> Turn {
+fn write_settled(
+    rt: &(impl Print + Eprint),
+    count: usize,
+    rounds: usize,
+    amounts: &[u64],
+    answers: &[u64],
+) -> Turn {
     let mut line = [0u8; 128];
     let counted = put_named(&mut line, 0, b"rounds ", count as u64);
     let settled = put_named(&mut line, counted, b" settled ", rounds as u64);
     let last = put_bytes(&mut line, settled, b"\n");
-    if print(&NAME, &line, last) {
-        return write_rounds(amounts, answers);
+    if print(rt, &NAME, &line, last) {
+        return write_rounds(rt, amounts, answers);
     }
     Turn::Fault
 }
 
-fn settle(file: &[u8], amounts: usize, answers: usize) -> Turn
+fn settle(rt: &(impl Print + Eprint), file: &[u8], amounts: usize, answers: usize) -> Turn
     requires { (amounts ≤ 4096) × (answers ≤ 256) }
 {
     let mut room = [MARK; AMOUNTS];
@@ -136,23 +148,23 @@ fn settle(file: &[u8], amounts: usize, answers: usize) -> Turn
     let number = ripplehatch_settle_shift(file, lent, said, &mut rounds, &mut place);
     let count = ripplehatch_count_rounds(file);
     if number == 0 {
-        return write_settled(count, rounds, lent, said);
+        return write_settled(rt, count, rounds, lent, said);
     }
-    write_refused(count, number, place, is_kept(lent) & is_kept(said))
+    write_refused(rt, count, number, place, is_kept(lent) & is_kept(said))
 }
 
-fn next_shift() -> Next {
+fn next_shift(rt: &(impl Input + Eprint)) -> Next {
     let mut head = [0u8; 6];
-    let got = read_into(&mut head);
+    let got = read_into(rt, &mut head);
     if got.failed {
-        tell_unread(&NAME);
+        tell_unread(rt, &NAME, got.reason);
         return Next::Fault;
     }
     if got.bytes == 0 {
         return Next::End;
     }
     if got.bytes < 6 {
-        tell(&NAME, b"the stream ends before a shift's bytes");
+        tell(rt, &NAME, b"the stream ends before a shift's bytes");
         return Next::Fault;
     }
     Next::Shift {
@@ -162,40 +174,46 @@ fn next_shift() -> Next {
     }
 }
 
-fn too_long() -> Turn {
-    tell(&NAME, b"lends at most 4096 amounts and 256 answers");
+fn too_long(rt: &impl Eprint) -> Turn {
+    tell(rt, &NAME, b"lends at most 4096 amounts and 256 answers");
     Turn::Fault
 }
 
 // Reads a shift that fills the list, and answers it.
-fn answer_shift(file: &mut [u8], amounts: usize, answers: usize) -> Turn {
+fn answer_shift(
+    rt: &(impl Input + Print + Eprint),
+    file: &mut [u8],
+    amounts: usize,
+    answers: usize,
+) -> Turn {
     if AMOUNTS < amounts {
-        return too_long();
+        return too_long(rt);
     }
     if ANSWERS < answers {
-        return too_long();
+        return too_long(rt);
     }
-    let got = read_into(file);
+    let got = read_into(rt, file);
     if got.failed {
-        tell_unread(&NAME);
+        tell_unread(rt, &NAME, got.reason);
         return Turn::Fault;
     }
     if got.bytes < file.len() {
-        tell(&NAME, b"the stream ends inside a shift");
+        tell(rt, &NAME, b"the stream ends inside a shift");
         return Turn::Fault;
     }
-    settle(file, amounts, answers)
+    settle(rt, file, amounts, answers)
 }
 
-fn answer_next(room: &mut [u8]) -> Turn
+fn answer_next(rt: &(impl Input + Print + Eprint), room: &mut [u8]) -> Turn
     requires { length room.old ≡ 65536 }
 {
-    match next_shift() {
+    match next_shift(rt) {
         Next::Shift {
             amounts,
             answers,
             bytes,
         } => answer_shift(
+            rt,
             &mut room[0..bytes as usize],
             amounts as usize,
             answers as usize,
@@ -205,11 +223,11 @@ fn answer_next(room: &mut [u8]) -> Turn
     }
 }
 
-fn answer_all() -> Outcome {
-    let mut room = io::large_buffer();
+fn answer_all(rt: &(impl Input + Print + Eprint)) -> Outcome {
+    let mut room = [0u8; 65536];
     let mut shifts = 0;
     while shifts < MOST_SHIFTS {
-        match answer_next(&mut room) {
+        match answer_next(rt, &mut room) {
             Turn::Answered => {}
             Turn::End => return Outcome::Done,
             Turn::Fault => return Outcome::Fault,
@@ -219,9 +237,9 @@ fn answer_all() -> Outcome {
     Outcome::Done
 }
 
-fn main() {
-    let call = called(&NAME, true);
+fn main(rt: HostRuntime) {
+    let call = called(&rt, &NAME, true);
     if call.sound {
-        end(&NAME, call, answer_all());
+        end(&rt, &NAME, call, answer_all(&rt));
     }
 }

@@ -109,7 +109,7 @@ fn put_changes(line: &mut [u8], at: usize, entry: u8, size: usize, card: u8) -> 
 }
 
 // None to six sound cards, none to six equal ones; then changes to a card 52, to a card 255, and to the first card.
-fn ask(words: &[u8], entry: u8, size: usize) -> bool
+fn ask(rt: &(impl Print + Eprint), words: &[u8], entry: u8, size: usize) -> bool
     requires { size ≤ 6 }
 {
     let mut line = [0u8; 256];
@@ -120,31 +120,31 @@ fn ask(words: &[u8], entry: u8, size: usize) -> bool
     let far = put_changes(&mut line, above, entry, size, 255);
     let repeated = put_changes(&mut line, far, entry, size, 0);
     let last = put_bytes(&mut line, repeated, b"\n");
-    print(&NAME, &line, last)
+    print(rt, &NAME, &line, last)
 }
 
-fn ask_all() -> Outcome {
-    if !ask(b"five cards:", FIVE, 5) {
+fn ask_all(rt: &(impl Print + Eprint)) -> Outcome {
+    if !ask(rt, b"five cards:", FIVE, 5) {
         return Outcome::Fault;
     }
-    if !ask(b"Lo Ball:", LO, 5) {
+    if !ask(rt, b"Lo Ball:", LO, 5) {
         return Outcome::Fault;
     }
-    if !ask(b"board:", BOARD, 3) {
+    if !ask(rt, b"board:", BOARD, 3) {
         return Outcome::Fault;
     }
-    if !ask(b"pocket:", POCKET, 2) {
+    if !ask(rt, b"pocket:", POCKET, 2) {
         return Outcome::Fault;
     }
-    if !ask(b"All-Six:", SIX, 6) {
+    if !ask(rt, b"All-Six:", SIX, 6) {
         return Outcome::Fault;
     }
     Outcome::Done
 }
 
-fn main() {
-    let call = called(&NAME, false);
+fn main(rt: HostRuntime) {
+    let call = called(&rt, &NAME, false);
     if call.sound {
-        end(&NAME, call, ask_all());
+        end(&rt, &NAME, call, ask_all(&rt));
     }
 }

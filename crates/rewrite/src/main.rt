@@ -19,7 +19,7 @@
 
 #![tactic(auto)]
 
-ghost use Rattle.io.specs.Counts.{IsPrefixLen};
+ghost use Rattle.pipes.specs.Counts.{IsPrefixLen};
 
 use pipes::{Outcome, called, end, print, read_first, tell_text};
 use reading::read_prefix;
@@ -31,49 +31,54 @@ const NAME: [u8; 7] = *b"rewrite";
 // The bytes of the 34 records that are held.
 const HELD_BYTES: usize = 544;
 
-fn refused(number: u8, place: usize) -> Outcome {
+fn refused(rt: &impl Eprint, number: u8, place: usize) -> Outcome {
     let mut room = [0u8; 64];
     let numbered = put_named(&mut room, 0, b"refused ", number as u64);
     let last = put_line(&mut room, numbered, b" at", &[place as u64]);
-    tell_text(&room, last);
+    tell_text(rt, &room, last);
     Outcome::Refused
 }
 
-fn written(file: [u8; HELD_BYTES], bytes: usize) -> Outcome {
-    if print(&NAME, &file, bytes) {
+fn written(rt: &(impl Print + Eprint), file: [u8; HELD_BYTES], bytes: usize) -> Outcome {
+    if print(rt, &NAME, &file, bytes) {
         return Outcome::Done;
     }
     Outcome::Fault
 }
 
-fn rewritten(file: [u8; HELD_BYTES], held: usize, after: usize) -> Outcome
+fn rewritten(
+    rt: &(impl Print + Eprint),
+    file: [u8; HELD_BYTES],
+    held: usize,
+    after: usize,
+) -> Outcome
     requires { IsPrefixLen held file }
 {
     let reading = read_prefix(&file[..held], after);
     let number = reading.number;
     let place = reading.place;
     if number != 0 {
-        return refused(number, place);
+        return refused(rt, number, place);
     }
     let mut room = file;
     match write_round(reading.round, &mut room[..held]) {
-        WriteAnswer::Written => written(room, held),
-        WriteAnswer::Refused(number) => refused(number, place),
+        WriteAnswer::Written => written(rt, room, held),
+        WriteAnswer::Refused(number) => refused(rt, number, place),
     }
 }
 
-fn run() -> Outcome {
+fn run(rt: &(impl Input + Print + Eprint)) -> Outcome {
     let mut file = [0u8; HELD_BYTES];
-    let got = read_first(&NAME, &mut file);
+    let got = read_first(rt, &NAME, &mut file);
     if got.failed {
         return Outcome::Fault;
     }
-    rewritten(file, got.bytes, got.after)
+    rewritten(rt, file, got.bytes, got.after)
 }
 
-fn main() {
-    let call = called(&NAME, true);
+fn main(rt: HostRuntime) {
+    let call = called(&rt, &NAME, true);
     if call.sound {
-        end(&NAME, call, run());
+        end(&rt, &NAME, call, run(&rt));
     }
 }

@@ -148,28 +148,28 @@ fn put_rewritten(line: &mut [u8], at: usize, file: &[u8]) -> usize {
 }
 
 // A line is at most 35 amounts of 20 digits, the pool, a part of 16 bytes and 33 records, so it fits its room.
-fn write_answer(file: &[u8]) -> Turn {
+fn write_answer(rt: &(impl Print + Eprint), file: &[u8]) -> Turn {
     let mut line = [0u8; 2048];
     let settled = put_settled(&mut line, file);
     let part = put_part(&mut line, settled, begins(file), refused_part(file));
     let taken = put_taken(&mut line, part, file);
     let written = put_rewritten(&mut line, taken, file);
     let last = put_bytes(&mut line, written, b"\n");
-    if print(&NAME, &line, last) {
+    if print(rt, &NAME, &line, last) {
         return Turn::Answered;
     }
     Turn::Fault
 }
 
-fn next_length() -> Next {
+fn next_length(rt: &(impl Input + Eprint)) -> Next {
     let mut length = [0u8; 2];
-    let got = read_into(&mut length);
+    let got = read_into(rt, &mut length);
     if got.failed {
-        tell_unread(&NAME);
+        tell_unread(rt, &NAME, got.reason);
         return Next::Fault;
     }
     if got.bytes == 1 {
-        tell(&NAME, b"the stream ends inside a length");
+        tell(rt, &NAME, b"the stream ends inside a length");
         return Next::Fault;
     }
     if got.bytes == 0 {
@@ -179,34 +179,34 @@ fn next_length() -> Next {
 }
 
 // Reads a file that fills the list, and answers it.
-fn answer_file(file: &mut [u8]) -> Turn {
-    let got = read_into(file);
+fn answer_file(rt: &(impl Input + Print + Eprint), file: &mut [u8]) -> Turn {
+    let got = read_into(rt, file);
     if got.failed {
-        tell_unread(&NAME);
+        tell_unread(rt, &NAME, got.reason);
         return Turn::Fault;
     }
     if got.bytes < file.len() {
-        tell(&NAME, b"the stream ends inside a file");
+        tell(rt, &NAME, b"the stream ends inside a file");
         return Turn::Fault;
     }
-    write_answer(file)
+    write_answer(rt, file)
 }
 
-fn answer_next(room: &mut [u8]) -> Turn
+fn answer_next(rt: &(impl Input + Print + Eprint), room: &mut [u8]) -> Turn
     requires { length room.old ≡ 65536 }
 {
-    match next_length() {
-        Next::Long(n) => answer_file(&mut room[0..n as usize]),
+    match next_length(rt) {
+        Next::Long(n) => answer_file(rt, &mut room[0..n as usize]),
         Next::End => Turn::End,
         Next::Fault => Turn::Fault,
     }
 }
 
-fn answer_all() -> Outcome {
-    let mut room = io::large_buffer();
+fn answer_all(rt: &(impl Input + Print + Eprint)) -> Outcome {
+    let mut room = [0u8; 65536];
     let mut files = 0;
     while files < MOST_FILES {
-        match answer_next(&mut room) {
+        match answer_next(rt, &mut room) {
             Turn::Answered => {}
             Turn::End => return Outcome::Done,
             Turn::Fault => return Outcome::Fault,
@@ -216,9 +216,9 @@ fn answer_all() -> Outcome {
     Outcome::Done
 }
 
-fn main() {
-    let call = called(&NAME, true);
+fn main(rt: HostRuntime) {
+    let call = called(&rt, &NAME, true);
     if call.sound {
-        end(&NAME, call, answer_all());
+        end(&rt, &NAME, call, answer_all(&rt));
     }
 }

@@ -19,7 +19,7 @@
 #![tactic(auto)]
 
 ghost use Rattle.std.specs.Prelude.{◌≤◌};
-ghost use Rattle.io.specs.Counts.{IsPrefixLen};
+ghost use Rattle.pipes.specs.Counts.{IsPrefixLen};
 
 use pipes::{Outcome, called, end, print, read_first};
 use results::{RESULTS, SEAT_WAGERS};
@@ -69,50 +69,56 @@ fn put_seats(room: &mut [u8], file: [u8; HELD_BYTES], results: [u64; RESULTS]) -
 }
 
 // Writes the answer, which ends at `last`: the outcome, or a fault where it can't be written.
-fn printed(room: &[u8], last: usize, outcome: Outcome) -> Outcome {
-    if print(&NAME, room, last) {
+fn printed(rt: &(impl Print + Eprint), room: &[u8], last: usize, outcome: Outcome) -> Outcome {
+    if print(rt, &NAME, room, last) {
         return outcome;
     }
     Outcome::Fault
 }
 
 // At most 34 lines of 107 bytes and one of 47, so they fit their room.
-fn print_paid(file: [u8; HELD_BYTES], results: [u64; RESULTS], full: u64, paid: u64) -> Outcome {
-    let mut room = io::buffer();
+fn print_paid(
+    rt: &(impl Print + Eprint),
+    file: [u8; HELD_BYTES],
+    results: [u64; RESULTS],
+    full: u64,
+    paid: u64,
+) -> Outcome {
+    let mut room = [0u8; 4096];
     let seats = put_seats(&mut room, file, results);
     let last = put_line(&mut room, seats, b"pool", &[full, paid]);
-    printed(&room, last, Outcome::Done)
+    printed(rt, &room, last, Outcome::Done)
 }
 
-fn print_refused(number: u8, place: usize) -> Outcome {
+fn print_refused(rt: &(impl Print + Eprint), number: u8, place: usize) -> Outcome {
     let mut room = [0u8; 64];
     let numbered = put_named(&mut room, 0, b"refused ", number as u64);
     let last = put_line(&mut room, numbered, b" at", &[place as u64]);
-    printed(&room, last, Outcome::Refused)
+    printed(rt, &room, last, Outcome::Refused)
 }
 
-fn settled(file: [u8; HELD_BYTES], held: usize, more: usize) -> Outcome
+fn settled(rt: &(impl Print + Eprint), file: [u8; HELD_BYTES], held: usize, more: usize) -> Outcome
     requires { IsPrefixLen held file }
 {
     let mut results = [0u64; RESULTS];
     match settle_prefix(&file[..held], more, &mut results) {
-        FileSettlement::Paid { full, paid } => print_paid(file, results, full, paid),
-        FileSettlement::Refused { number, place } => print_refused(number, place),
+        FileSettlement::Paid { full, paid } => print_paid(rt, file, results, full, paid),
+        FileSettlement::Refused { number, place } => print_refused(rt, number, place),
     }
 }
 
-fn run() -> Outcome {
+fn run(rt: &(impl Input + Print + Eprint)) -> Outcome {
     let mut file = [0u8; HELD_BYTES];
-    let got = read_first(&NAME, &mut file);
+    let got = read_first(rt, &NAME, &mut file);
     if got.failed {
         return Outcome::Fault;
     }
-    settled(file, got.bytes, got.after)
+    settled(rt, file, got.bytes, got.after)
 }
 
-fn main() {
-    let call = called(&NAME, true);
+fn main(rt: HostRuntime) {
+    let call = called(&rt, &NAME, true);
     if call.sound {
-        end(&NAME, call, run());
+        end(&rt, &NAME, call, run(&rt));
     }
 }

@@ -61,7 +61,7 @@ fn put_shared(line: &mut [u8], at: usize, answer: Shared) -> usize {
 }
 
 // The maximum and the wins; then the answer, and what a lent list of this length, whose amounts were 77, then holds.
-fn ask(maximum: u64, wins: &[u64], room: usize) -> bool
+fn ask(rt: &(impl Print + Eprint), maximum: u64, wins: &[u64], room: usize) -> bool
     requires { room ≤ 8 }
 {
     let mut lent = [77u64; 8];
@@ -72,10 +72,10 @@ fn ask(maximum: u64, wins: &[u64], room: usize) -> bool
     let shared = put_list(&mut line, asked, b"", wins);
     let answered = put_shared(&mut line, shared, answer);
     let last = put_line(&mut line, answered, b"", list);
-    print(&NAME, &line, last)
+    print(rt, &NAME, &line, last)
 }
 
-fn ask_row(row: [u64; 11]) -> bool {
+fn ask_row(rt: &(impl Print + Eprint), row: [u64; 11]) -> bool {
     let room = row[1] as usize;
     let many = row[2] as usize;
     if 8 < room {
@@ -84,21 +84,21 @@ fn ask_row(row: [u64; 11]) -> bool {
     if 8 < many {
         return true;
     }
-    ask(row[0], &row[3..3 + many], room)
+    ask(rt, row[0], &row[3..3 + many], room)
 }
 
-fn ask_all() -> Outcome {
+fn ask_all(rt: &(impl Print + Eprint)) -> Outcome {
     for i in 0..27 {
-        if !ask_row(POOLS[i]) {
+        if !ask_row(rt, POOLS[i]) {
             return Outcome::Fault;
         }
     }
     Outcome::Done
 }
 
-fn main() {
-    let call = called(&NAME, false);
+fn main(rt: HostRuntime) {
+    let call = called(&rt, &NAME, false);
     if call.sound {
-        end(&NAME, call, ask_all());
+        end(&rt, &NAME, call, ask_all(&rt));
     }
 }

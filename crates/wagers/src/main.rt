@@ -148,7 +148,7 @@ fn put_above(line: &mut [u8], at: usize, pay: Pay) -> usize {
 }
 
 // The wager, its table and the dollars; then the cents handed back, and whether the odds are above 50.
-fn ask(row: [u8; 9]) -> bool {
+fn ask(rt: &(impl Print + Eprint), row: [u8; 9]) -> bool {
     let after = 3 + cards_of(row[0]);
     let pay = pay_of(row[0], row[1], &row[3..after]);
     let cents = pays::handed_back(pay, row[2] as u32);
@@ -157,21 +157,21 @@ fn ask(row: [u8; 9]) -> bool {
     let named = put_entry(&mut line, row[0]);
     let listed = put_list(&mut line, named, b"", &numbers);
     let last = put_above(&mut line, listed, pay);
-    print(&NAME, &line, last)
+    print(rt, &NAME, &line, last)
 }
 
-fn ask_all() -> Outcome {
+fn ask_all(rt: &(impl Print + Eprint)) -> Outcome {
     for i in 0..35 {
-        if !ask(WAGERS[i]) {
+        if !ask(rt, WAGERS[i]) {
             return Outcome::Fault;
         }
     }
     Outcome::Done
 }
 
-fn main() {
-    let call = called(&NAME, false);
+fn main(rt: HostRuntime) {
+    let call = called(&rt, &NAME, false);
     if call.sound {
-        end(&NAME, call, ask_all());
+        end(&rt, &NAME, call, ask_all(&rt));
     }
 }
