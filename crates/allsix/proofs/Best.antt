@@ -7,7 +7,7 @@ use mathlib.Core.List.{List}
 use native.Mathlib.Omega.{arith}
 use lib.Dec.{leb}
 use borrow.Author.Tests.{leb-true, leb-false}
-use Rattle.counting.specs.Choose.{if◌then◌else◌}
+use Rattle.std.specs.Prelude.{if◌then◌else◌}
 use Rattle.counting.proofs.Ranges.{below_suc}
 use Rattle.names.specs.declared.FiveName.{FiveName}
 use Rattle.names.specs.Five.{name_five, five_place}

@@ -1,7 +1,6 @@
 -- The All-Six name of six cards.
 -- Assumes nothing.
-use Rattle.std.specs.Prelude.{ℕ, zero, suc, ◌+◌, Bool, ◌&&◌, List, [], ◌∷◌, eqb, leb}
-use Rattle.counting.specs.Choose.{if◌then◌else◌}
+use Rattle.std.specs.Prelude.{ℕ, zero, suc, ◌+◌, Bool, ◌&&◌, List, [], ◌∷◌, eqb, leb, if◌then◌else◌}
 use Rattle.hands.specs.Hand.{of_rank, of_suit, flush, run, hand_refusal}
 use Rattle.names.specs.Answer.{answer}
 use Rattle.names.specs.declared.FiveName.{FiveName}

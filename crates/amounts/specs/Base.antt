@@ -1,8 +1,7 @@
 -- The base wager of a seat: its stake, its hand, its odds, and whether its win goes into the pool. Wagers and wins are dollars, amounts
 -- are cents. A seat is told by its place, 0 to 6.
 -- Assumes nothing.
-use Rattle.std.specs.Prelude.{ℕ, ◌+◌, ◌*◌, Bool, ◌&&◌, List, get_or}
-use Rattle.counting.specs.Choose.{if◌then◌else◌}
+use Rattle.std.specs.Prelude.{ℕ, ◌+◌, ◌*◌, Bool, ◌&&◌, List, get_or, if◌then◌else◌}
 use Rattle.counting.specs.Count.{each}
 use Rattle.choosing.specs.Streets.{raise_on, still_in}
 use Rattle.round.specs.declared.Round.{Round}

@@ -9,7 +9,7 @@ use lib.Dec.{leb, ltb}
 use lib.ListN.{length, get_or, take, drop}
 use lib.Seq.{get_or-take}
 use borrow.Author.Tests.{leb-true, leb-false}
-use Rattle.counting.specs.Choose.{if◌then◌else◌}
+use Rattle.std.specs.Prelude.{if◌then◌else◌}
 use Rattle.counting.proofs.Tests.{clash}
 use Rattle.counting.proofs.Lists.{every_of_left, every_of_right}
 use Rattle.records.specs.Bytes.{are_bytes}

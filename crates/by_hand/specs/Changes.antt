@@ -1,7 +1,6 @@
 -- The round that a letter and up to three numbers make of another.
 -- Assumes nothing.
-use Rattle.std.specs.Prelude.{ℕ, eqb, ltb, set}
-use Rattle.counting.specs.Choose.{if◌then◌else◌}
+use Rattle.std.specs.Prelude.{ℕ, eqb, ltb, set, if◌then◌else◌}
 use Rattle.seating.specs.declared.Table.{Table}
 use Rattle.seating.specs.declared.Wagers.{Wagers}
 use Rattle.round.specs.declared.Round.{Round}

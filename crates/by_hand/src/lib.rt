@@ -4,8 +4,7 @@
 
 #![tactic(auto)]
 
-ghost use Rattle.std.specs.Prelude.{◌≡◌};
-ghost use Rattle.counting.specs.Choose.{if◌then◌else◌};
+ghost use Rattle.std.specs.Prelude.{◌≡◌, if◌then◌else◌};
 ghost use Rattle.by_hand.specs.Changes.{wagers_with, with_number, with_wager, with_card, with_parts, with_raise, with_fold, changed};
 
 use choosing::Play;

@@ -9,7 +9,7 @@ use lib.Dec.{eqb, leb}
 use lib.ListN.{get_or, set, length, length-set, replicate}
 use lib.Seq.{ext_get_or}
 use borrow.Author.Tests.{eqb-true, leb-true, eq-eqb, le-leb}
-use Rattle.counting.specs.Choose.{if◌then◌else◌}
+use Rattle.std.specs.Prelude.{if◌then◌else◌}
 use Rattle.counting.proofs.Tests.{and_true, positive, not_zero}
 use Rattle.counting.proofs.Firsts.{zeros_at}
 use Rattle.records.specs.Bytes.{byte, zero_from, between}

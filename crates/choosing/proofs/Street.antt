@@ -9,7 +9,7 @@ use lib.Dec.{eqb}
 use lib.ListN.{get_or, set}
 use lib.Seq.{get_or-set_other}
 use borrow.Author.Tests.{eqb-true, eqb-false}
-use Rattle.counting.specs.Choose.{if◌then◌else◌}
+use Rattle.std.specs.Prelude.{if◌then◌else◌}
 use Rattle.counting.proofs.Tests.{clash, and_true, is_false, positive, not_zero}
 use Rattle.counting.proofs.Ranges.{none_at, none_of, some_here, some_where}
 use Rattle.counting.proofs.Firsts.{zeros_at}

@@ -7,7 +7,7 @@ use mathlib.Core.List.{List}
 use native.Mathlib.Omega.{arith}
 use lib.Dec.{eqb}
 use lib.Seq.{get_or-set_other, set_comm}
-use Rattle.counting.specs.Choose.{if◌then◌else◌}
+use Rattle.std.specs.Prelude.{if◌then◌else◌}
 use Rattle.records.specs.Bytes.{byte}
 use Rattle.records.specs.Seats.{place}
 use Rattle.choosing.specs.declared.Play.{Play}

@@ -1,7 +1,6 @@
 -- The choices.
 -- Assumes nothing.
-use Rattle.std.specs.Prelude.{ℕ, ◌+◌, ◌*◌, not, List, [], ◌∷◌, eqb, leb, set}
-use Rattle.counting.specs.Choose.{if◌then◌else◌}
+use Rattle.std.specs.Prelude.{ℕ, ◌+◌, ◌*◌, not, List, [], ◌∷◌, eqb, leb, set, if◌then◌else◌}
 use Rattle.records.specs.Bytes.{byte, zero_from, between}
 use Rattle.records.specs.Seats.{place, plays}
 use Rattle.choosing.specs.declared.Play.{Play}

@@ -1,7 +1,6 @@
 -- What the choices of a round that accepted records lead to may be: a test of each seat on each street.
 -- Assumes nothing.
-use Rattle.std.specs.Prelude.{ℕ, ◌+◌, Bool, not, ◌&&◌, ◌||◌, List, eqb, leb, ltb, get_or}
-use Rattle.counting.specs.Choose.{if◌then◌else◌}
+use Rattle.std.specs.Prelude.{ℕ, ◌+◌, Bool, not, ◌&&◌, ◌||◌, List, eqb, leb, ltb, get_or, if◌then◌else◌}
 use Rattle.counting.specs.Count.{every_below}
 use Rattle.choosing.specs.declared.Play.{Play}
 use Rattle.choosing.specs.Streets.{raise_on, fold_of}

@@ -1,7 +1,6 @@
 -- Three streets, before the first, second and third community card; in lists they are 0, 1 and 2.
 -- Assumes nothing.
-use Rattle.std.specs.Prelude.{ℕ, ◌+◌, ◌*◌, Bool, not, ◌&&◌, ◌||◌, List, eqb, get_or, replicate}
-use Rattle.counting.specs.Choose.{if◌then◌else◌}
+use Rattle.std.specs.Prelude.{ℕ, ◌+◌, ◌*◌, Bool, not, ◌&&◌, ◌||◌, List, eqb, get_or, replicate, if◌then◌else◌}
 use Rattle.counting.specs.Count.{some_below, tally, sum_below}
 use Rattle.records.specs.Seats.{plays}
 use Rattle.choosing.specs.declared.Play.{Play}

@@ -1,7 +1,6 @@
 -- Numbers in columns of four characters, and where lines of text end.
 -- Assumes nothing.
-use Rattle.std.specs.Prelude.{ℕ, ◌+◌, ◌-◌, ◌*◌, ◌%◌, List, [], ◌∷◌, eqb, drop}
-use Rattle.counting.specs.Choose.{if◌then◌else◌}
+use Rattle.std.specs.Prelude.{ℕ, ◌+◌, ◌-◌, ◌*◌, ◌%◌, List, [], ◌∷◌, eqb, drop, if◌then◌else◌}
 use Rattle.records.specs.Bytes.{byte, between}
 
 -- The digit at a place of a line, 0 where there is none.

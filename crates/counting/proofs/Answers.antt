@@ -6,7 +6,8 @@ use mathlib.Core.Bool.{Bool, true, false}
 use mathlib.Core.List.{List, []}
 use lib.Dec.{eqb}
 use borrow.Author.Tests.{eqb-true}
-use Rattle.counting.specs.Choose.{if◌then◌else◌, unless_refused}
+use Rattle.std.specs.Prelude.{if◌then◌else◌}
+use Rattle.counting.specs.Choose.{unless_refused}
 
 module _ {Answer : Type 0} (n : ℕ) (by : Bool → Answer) where
   pub by_number : (number : Answer → ℕ) → number (by true) ≡ 0 → number (by false) ≡ n → number (by (eqb n 0)) ≡ n

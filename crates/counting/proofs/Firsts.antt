@@ -10,7 +10,7 @@ use lib.Dec.{eqb, ltb}
 use lib.ListN.{get_or, set, length, length-set, replicate, length-replicate, take, drop, length-take, length-drop}
 use lib.Seq.{sets, ext_get_or, get_or-set_same, get_or-set_other, set-get_or, drop-cons, get_or-take, get_or-drop}
 use borrow.Author.Tests.{eqb-true, eqb-false, ltb-true, ltb-false, lt-ltb, le-ltb}
-use Rattle.counting.specs.Choose.{if◌then◌else◌}
+use Rattle.std.specs.Prelude.{if◌then◌else◌}
 use Rattle.counting.specs.Count.{every_of}
 use Rattle.counting.proofs.Lists.{every_of_at}
 

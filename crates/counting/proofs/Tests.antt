@@ -6,7 +6,8 @@ use mathlib.Core.Bool.{Bool, true, false, not, ◌&&◌, ◌||◌, or-true}
 use native.Mathlib.Omega.{arith}
 use lib.Dec.{eqb}
 use borrow.Author.Tests.{eqb-false, ne_eqb, not-true, not-false}
-use Rattle.counting.specs.Choose.{if◌then◌else◌, one}
+use Rattle.std.specs.Prelude.{if◌then◌else◌}
+use Rattle.counting.specs.Choose.{one}
 
 -- no test holds and fails
 pub clash : {A : Type 0} (b : Bool) → b ≡ true → b ≡ false → A

@@ -1,11 +1,6 @@
 -- Choosing by a test.
 -- Assumes nothing.
-use Rattle.std.specs.Prelude.{ℕ, Bool, true, false, List, [], eqb}
-
-infixr 10 if◌then◌else◌
-abbrev pub if◌then◌else◌ : {A : Type 0} → Bool → A → A → A
-if◌then◌else◌ true a b = a
-if◌then◌else◌ false a b = b
+use Rattle.std.specs.Prelude.{ℕ, Bool, true, false, List, [], eqb, if◌then◌else◌}
 
 -- a test as a number
 abbrev pub one : Bool → ℕ

@@ -1,7 +1,6 @@
 -- The rounds of a file in which they are joined end to end.
 -- Assumes nothing.
-use Rattle.std.specs.Prelude.{ℕ, Bool, List, [], ◌∷◌, ◌++◌, eqb, length, get_or}
-use Rattle.counting.specs.Choose.{if◌then◌else◌}
+use Rattle.std.specs.Prelude.{ℕ, Bool, List, [], ◌∷◌, ◌++◌, eqb, length, get_or, if◌then◌else◌}
 use Rattle.records.specs.Bytes.{byte}
 use Rattle.reading.specs.File.{file_records}
 

@@ -9,7 +9,7 @@ use lib.Dec.{eqb, leb, ltb}
 use lib.ListN.{length, take, drop, length-append}
 use lib.Seq.{sets, sets-eq, length-slice, length-sets, length-take-le, take_at, drop_at, take_all, drop-drop}
 use borrow.Author.Tests.{eqb-true, eq-eqb, leb-true, le-leb, lt-ltb, not-true}
-use Rattle.counting.specs.Choose.{if◌then◌else◌}
+use Rattle.std.specs.Prelude.{if◌then◌else◌}
 use Rattle.counting.specs.Count.{every_of, some_below}
 use Rattle.counting.proofs.Tests.{and_true, unchosen, passed}
 use Rattle.counting.proofs.Lists.{every_of-drop}

@@ -1,9 +1,8 @@
 -- The deck, read in four parts.
 -- Assumes nothing.
-use Rattle.std.specs.Prelude.{ℕ, ◌+◌, ◌*◌, Bool, not, ◌&&◌, List, [], ◌∷◌, ◌++◌, eqb, leb, ltb, take, drop, replicate}
+use Rattle.std.specs.Prelude.{ℕ, ◌+◌, ◌*◌, Bool, not, ◌&&◌, List, [], ◌∷◌, ◌++◌, eqb, leb, ltb, take, drop, replicate, if◌then◌else◌}
 use Rattle.std.proofs.lemmas.List.Edits.{sets}
 use Rattle.std.proofs.Math.Seq.{slice}
-use Rattle.counting.specs.Choose.{if◌then◌else◌}
 use Rattle.cards.specs.Deck.{faulty, faulty_from}
 use Rattle.records.specs.Bytes.{byte, zero_from}
 use Rattle.dealing.specs.declared.Deck.{Deck}

@@ -5,7 +5,7 @@ use mathlib.Core.Path.{◌≡◌, refl}
 use mathlib.Core.Bool.{Bool, true, false, not}
 use mathlib.Core.List.{List}
 use lib.Dec.{eqb}
-use Rattle.counting.specs.Choose.{if◌then◌else◌}
+use Rattle.std.specs.Prelude.{if◌then◌else◌}
 use Rattle.round.specs.declared.Round.{Round}
 use Rattle.round.specs.Order.{is_finished}
 use Rattle.round.specs.Feed.{refusal, next, refused, accepted, feed, number_of}

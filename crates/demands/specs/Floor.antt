@@ -1,8 +1,7 @@
 -- What a base win at odds above 50 is sure of, and what the third demand says of a round and its results list. Wins and the maximum are
 -- dollars, amounts are cents.
 -- Assumes nothing.
-use Rattle.std.specs.Prelude.{ℕ, ◌+◌, ◌*◌, ◌-◌, ◌/◌, ◌≤◌, ◌<◌, min, ◌≡◌, Bool, true, ◌⊎◌, List, get_or}
-use Rattle.counting.specs.Choose.{if◌then◌else◌}
+use Rattle.std.specs.Prelude.{ℕ, ◌+◌, ◌*◌, ◌-◌, ◌/◌, ◌≤◌, ◌<◌, min, ◌≡◌, Bool, true, ◌⊎◌, List, get_or, if◌then◌else◌}
 use Rattle.counting.specs.Count.{tally, sum_below}
 use Rattle.seating.specs.declared.Table.{Table}
 use Rattle.round.specs.declared.Round.{Round}

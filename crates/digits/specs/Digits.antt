@@ -1,7 +1,6 @@
 -- Records as hexadecimal digits.
 -- Assumes nothing.
-use Rattle.std.specs.Prelude.{ℕ, List, [], ◌∷◌, ◌++◌}
-use Rattle.counting.specs.Choose.{if◌then◌else◌}
+use Rattle.std.specs.Prelude.{ℕ, List, [], ◌∷◌, ◌++◌, if◌then◌else◌}
 use Rattle.records.specs.Bytes.{zero_from}
 use Rattle.text.specs.Text.{hex_of}
 

@@ -7,7 +7,7 @@ use mathlib.Core.List.{List}
 use lib.Dec.{eqb}
 use lib.ListN.{length}
 use borrow.Author.Tests.{ne_eqb}
-use Rattle.counting.specs.Choose.{if◌then◌else◌}
+use Rattle.std.specs.Prelude.{if◌then◌else◌}
 use Rattle.round.specs.declared.Answer.{Answer}
 use Rattle.round.specs.declared.Answer.TheVariants.{Refused}
 use Rattle.round.specs.declared.Step.{Step}

@@ -1,7 +1,6 @@
 -- A round that is held as the file of it: accepted records, one after the other. The empty file is the fresh round.
 -- Assumes nothing.
-use Rattle.std.specs.Prelude.{ℕ, Bool, not, List, eqb}
-use Rattle.counting.specs.Choose.{if◌then◌else◌}
+use Rattle.std.specs.Prelude.{ℕ, Bool, not, List, eqb, if◌then◌else◌}
 use Rattle.round.specs.declared.Answer.{Answer}
 use Rattle.round.specs.declared.Answer.TheVariants.{Next, Finished, Refused}
 use Rattle.round.specs.Feed.{refusal, feed}

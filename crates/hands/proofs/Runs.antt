@@ -6,7 +6,8 @@ use mathlib.Core.Bool.{Bool, true, false}
 use native.Mathlib.Omega.{arith}
 use lib.Dec.{eqb, leb}
 use borrow.Author.Tests.{eqb-true, eq-eqb, leb-true}
-use Rattle.counting.specs.Choose.{one, if◌then◌else◌}
+use Rattle.std.specs.Prelude.{if◌then◌else◌}
+use Rattle.counting.specs.Choose.{one}
 use Rattle.counting.specs.Count.{every_below, some_below, sum_below}
 use Rattle.counting.proofs.Ranges.{every_at, some_where, some_here}
 use Rattle.counting.proofs.Sums.{squeezed}

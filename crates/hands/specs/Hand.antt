@@ -1,7 +1,6 @@
 -- What names are made of: how often ranks and suits occur, runs, and the refusals of a hand.
 -- Assumes nothing.
-use Rattle.std.specs.Prelude.{ℕ, zero, suc, ◌+◌, ◌-◌, Bool, not, List, eqb, leb, ltb, length}
-use Rattle.counting.specs.Choose.{if◌then◌else◌}
+use Rattle.std.specs.Prelude.{ℕ, zero, suc, ◌+◌, ◌-◌, Bool, not, List, eqb, leb, ltb, length, if◌then◌else◌}
 use Rattle.counting.specs.Count.{count, tally, every_below, some_below}
 use Rattle.cards.specs.Card.{rank, suit, two, ace}
 use Rattle.cards.specs.Deck.{faulty}

@@ -1,7 +1,6 @@
 -- One record to a held round.
 -- Assumes nothing.
-use Rattle.std.specs.Prelude.{ℕ, ◌≡◌, Bool, true, not, List}
-use Rattle.counting.specs.Choose.{if◌then◌else◌}
+use Rattle.std.specs.Prelude.{ℕ, ◌≡◌, Bool, true, not, List, if◌then◌else◌}
 use Rattle.round.specs.declared.Round.{Round}
 use Rattle.round.specs.declared.Step.{Step}
 use Rattle.round.specs.Feed.{refusal, refused, feed}

@@ -1,7 +1,6 @@
 -- Who holds which cards. A seat is told by its place, 0 to 6; whether All-Six is offered by the number of its pay table, 0 where it isn't.
 -- Assumes nothing.
-use Rattle.std.specs.Prelude.{ℕ, ◌+◌, ◌*◌, List, [], ◌∷◌, ◌++◌, eqb, get_or}
-use Rattle.counting.specs.Choose.{if◌then◌else◌}
+use Rattle.std.specs.Prelude.{ℕ, ◌+◌, ◌*◌, List, [], ◌∷◌, ◌++◌, eqb, get_or, if◌then◌else◌}
 use Rattle.counting.specs.Count.{tally}
 use Rattle.records.specs.Seats.{plays}
 

@@ -1,7 +1,6 @@
 -- The test of a held round, on its own numbers.
 -- Assumes nothing.
-use Rattle.std.specs.Prelude.{ℕ, ◌+◌, Bool, ◌&&◌, ◌||◌, eqb}
-use Rattle.counting.specs.Choose.{if◌then◌else◌}
+use Rattle.std.specs.Prelude.{ℕ, ◌+◌, Bool, ◌&&◌, ◌||◌, eqb, if◌then◌else◌}
 use Rattle.records.specs.Seats.{any_plays}
 use Rattle.seating.specs.Table.{table_fits}
 use Rattle.seating.specs.Seat.{seats_fit}

@@ -1,7 +1,7 @@
 -- The records of a held round, as a file has them: its table, its seats, its deck parts, then its choices by street and by rising seat.
 -- Assumes nothing.
-use Rattle.std.specs.Prelude.{ℕ, ◌+◌, Bool, List, [], ◌∷◌, ◌++◌}
-use Rattle.counting.specs.Choose.{if◌then◌else◌, one}
+use Rattle.std.specs.Prelude.{ℕ, ◌+◌, Bool, List, [], ◌∷◌, ◌++◌, if◌then◌else◌}
+use Rattle.counting.specs.Choose.{one}
 use Rattle.counting.specs.Count.{tally, gather}
 use Rattle.records.specs.Seats.{plays}
 use Rattle.seating.specs.Table.{has_table, table_record}

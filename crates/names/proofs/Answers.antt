@@ -6,7 +6,8 @@ use mathlib.Core.Bool.{Bool}
 use mathlib.Core.List.{List, [], ◌∷◌}
 use lib.ListN.{get_or}
 use borrow.Author.Tests.{eq-eqb, ne_eqb}
-use Rattle.counting.specs.Choose.{if◌then◌else◌, unless_refused}
+use Rattle.std.specs.Prelude.{if◌then◌else◌}
+use Rattle.counting.specs.Choose.{unless_refused}
 use Rattle.counting.specs.Count.{each}
 use Rattle.counting.proofs.Answers.{by_number, by_values}
 use Rattle.counting.proofs.Gathers.{each_of}

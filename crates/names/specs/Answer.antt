@@ -1,7 +1,6 @@
 -- What the entries answer.
 -- Assumes nothing.
-use Rattle.std.specs.Prelude.{ℕ, eqb}
-use Rattle.counting.specs.Choose.{if◌then◌else◌}
+use Rattle.std.specs.Prelude.{ℕ, eqb, if◌then◌else◌}
 
 -- Refused with number n, or the name where n is 0. (The first two arguments are the cases of the answer's type.)
 unfoldable pub answer : {Name Answer : Type 0} → (Name → Answer) → (ℕ → Answer) → ℕ → Name → Answer

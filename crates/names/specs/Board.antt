@@ -1,7 +1,6 @@
 -- The name of the three cards of the board.
 -- Assumes nothing.
-use Rattle.std.specs.Prelude.{ℕ, ◌&&◌, List, [], ◌∷◌, eqb}
-use Rattle.counting.specs.Choose.{if◌then◌else◌}
+use Rattle.std.specs.Prelude.{ℕ, ◌&&◌, List, [], ◌∷◌, eqb, if◌then◌else◌}
 use Rattle.hands.specs.Hand.{of_rank, of_suit, of_aKind, flush, run, straight, hand_refusal}
 use Rattle.names.specs.Answer.{answer}
 use Rattle.names.specs.declared.BoardName.{BoardName}

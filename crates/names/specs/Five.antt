@@ -1,7 +1,6 @@
 -- The name of five cards.
 -- Assumes nothing.
-use Rattle.std.specs.Prelude.{ℕ, ◌&&◌, List, [], ◌∷◌, eqb}
-use Rattle.counting.specs.Choose.{if◌then◌else◌}
+use Rattle.std.specs.Prelude.{ℕ, ◌&&◌, List, [], ◌∷◌, eqb, if◌then◌else◌}
 use Rattle.cards.specs.Card.{six, jack}
 use Rattle.hands.specs.Hand.{of_rank, of_suit, kinds, of_aKind, flush, run, straight, hand_refusal}
 use Rattle.names.specs.Answer.{answer}

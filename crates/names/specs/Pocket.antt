@@ -1,7 +1,6 @@
 -- The name of a seat's two cards.
 -- Assumes nothing.
-use Rattle.std.specs.Prelude.{ℕ, Bool, ◌&&◌, List, [], ◌∷◌, eqb}
-use Rattle.counting.specs.Choose.{if◌then◌else◌}
+use Rattle.std.specs.Prelude.{ℕ, Bool, ◌&&◌, List, [], ◌∷◌, eqb, if◌then◌else◌}
 use Rattle.cards.specs.Card.{jack, ace}
 use Rattle.hands.specs.Hand.{of_rank, of_suit, kinds, of_aKind, flush, hand_refusal}
 use Rattle.names.specs.Answer.{answer}

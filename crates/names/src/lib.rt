@@ -12,8 +12,8 @@
 
 #![tactic(auto)]
 
-ghost use Rattle.std.specs.Prelude.{◌≡◌, [], ◌∷◌, ℕ};
-ghost use Rattle.counting.specs.Choose.{if◌then◌else◌, unless_refused};
+ghost use Rattle.std.specs.Prelude.{◌≡◌, [], ◌∷◌, ℕ, if◌then◌else◌};
+ghost use Rattle.counting.specs.Choose.{unless_refused};
 ghost use Rattle.hands.specs.Hand.{of_rank, of_suit, flush, hand_refusal};
 ghost use Rattle.words.specs.Word.{Has};
 ghost use Rattle.names.specs.Five.{five_by, name_five, answer_five, five_place, five_number, five_values};

@@ -1,7 +1,6 @@
 -- How the code writes a table: odds to 1 as printed, and four numbers for what is printed in words, as a fraction, or doesn't fit 16 bits.
 -- Assumes nothing.
-use Rattle.std.specs.Prelude.{ℕ, eqb}
-use Rattle.counting.specs.Choose.{if◌then◌else◌}
+use Rattle.std.specs.Prelude.{ℕ, eqb, if◌then◌else◌}
 use Rattle.pays.specs.declared.Pay.{Pay}
 use Rattle.pays.specs.declared.Pay.TheVariants.{To, ThreeToTwo, To200000, Push, Loss}
 

@@ -1,7 +1,6 @@
 -- What a pay table, chosen by number, says of a name.
 -- Assumes nothing.
-use Rattle.std.specs.Prelude.{ℕ, ◌+◌, ◌-◌, ◌&&◌, List, [], leb, ltb, length, get_or}
-use Rattle.counting.specs.Choose.{if◌then◌else◌}
+use Rattle.std.specs.Prelude.{ℕ, ◌+◌, ◌-◌, ◌&&◌, List, [], leb, ltb, length, get_or, if◌then◌else◌}
 use Rattle.names.specs.declared.FiveName.{FiveName}
 use Rattle.names.specs.declared.BoardName.{BoardName}
 use Rattle.names.specs.declared.PocketName.{PocketName}

@@ -9,8 +9,7 @@
 
 #![tactic(auto)]
 
-ghost use Rattle.std.specs.Prelude.{◌≡◌, ◌&&◌, map, ◌+◌, ◌-◌, leb, ltb};
-ghost use Rattle.counting.specs.Choose.{if◌then◌else◌};
+ghost use Rattle.std.specs.Prelude.{◌≡◌, ◌&&◌, map, ◌+◌, ◌-◌, leb, ltb, if◌then◌else◌};
 ghost use Rattle.names.specs.Five.{five_place};
 ghost use Rattle.names.specs.Board.{board_place};
 ghost use Rattle.names.specs.Pocket.{pocket_place};

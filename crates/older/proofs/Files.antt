@@ -9,7 +9,7 @@ use native.Mathlib.Omega.{arith}
 use lib.Dec.{eqb}
 use lib.ListN.{length}
 use borrow.Author.Tests.{eqb-true, eqb-false}
-use Rattle.counting.specs.Choose.{if◌then◌else◌}
+use Rattle.std.specs.Prelude.{if◌then◌else◌}
 use Rattle.counting.proofs.Tests.{and_true, both}
 use Rattle.counting.proofs.Gathers.{gather-length}
 use Rattle.round.specs.declared.Round.{Round}

@@ -1,7 +1,6 @@
 -- The deal and the amounts as they were before All-Six, and what a file was answered.
 -- Assumes nothing.
-use Rattle.std.specs.Prelude.{ℕ, ◌+◌, ◌*◌, Bool, not, ◌&&◌, List, [], ◌∷◌, ◌++◌, eqb, get_or}
-use Rattle.counting.specs.Choose.{if◌then◌else◌}
+use Rattle.std.specs.Prelude.{ℕ, ◌+◌, ◌*◌, Bool, not, ◌&&◌, List, [], ◌∷◌, ◌++◌, eqb, get_or, if◌then◌else◌}
 use Rattle.counting.specs.Count.{gather, each}
 use Rattle.round.specs.declared.Round.{Round}
 use Rattle.round.specs.Order.{is_finished}

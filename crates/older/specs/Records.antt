@@ -1,7 +1,6 @@
 -- Records as they were read before All-Six, and files whose records say nothing of it.
 -- Assumes nothing.
-use Rattle.std.specs.Prelude.{ℕ, ◌%◌, ◌/◌, ◌≡◌, Bool, true, not, ◌&&◌, List, [], ◌∷◌, eqb, leb, length, set}
-use Rattle.counting.specs.Choose.{if◌then◌else◌}
+use Rattle.std.specs.Prelude.{ℕ, ◌%◌, ◌/◌, ◌≡◌, Bool, true, not, ◌&&◌, List, [], ◌∷◌, eqb, leb, length, set, if◌then◌else◌}
 use Rattle.records.specs.Bytes.{byte, word, zero_from, between}
 use Rattle.records.specs.Seats.{place}
 use Rattle.seating.specs.declared.Table.{Table}

@@ -8,7 +8,8 @@ use native.Mathlib.Omega.{arith}
 use lib.Dec.{eqb, leb, ltb}
 use lib.ListN.{length, get_or, length-map, get_or-eq_default}
 use borrow.Author.Tests.{le-leb, lt-leb, leb-true, leb-false, lt-ltb, le-ltb, ltb-true, ltb-false, eq-eqb, ne_eqb, eqb-true, not-false}
-use Rattle.counting.specs.Choose.{if◌then◌else◌, one}
+use Rattle.std.specs.Prelude.{if◌then◌else◌}
+use Rattle.counting.specs.Choose.{one}
 use Rattle.counting.specs.Count.{tally, total}
 use Rattle.counting.proofs.Tests.{clash, and_true, both, one_le, or_false, neither}
 use Rattle.counting.proofs.Answers.{by_number}

@@ -1,7 +1,7 @@
 -- The round maximum: how a pool of wins is shared. Wins, shares and the maximum are whole dollars.
 -- Assumes nothing.
-use Rattle.std.specs.Prelude.{ℕ, ◌+◌, ◌*◌, ◌-◌, ◌/◌, ◌%◌, Bool, not, ◌&&◌, ◌||◌, List, map, eqb, leb, ltb, length, get_or, replicate}
-use Rattle.counting.specs.Choose.{if◌then◌else◌, one}
+use Rattle.std.specs.Prelude.{ℕ, ◌+◌, ◌*◌, ◌-◌, ◌/◌, ◌%◌, Bool, not, ◌&&◌, ◌||◌, List, map, eqb, leb, ltb, length, get_or, replicate, if◌then◌else◌}
+use Rattle.counting.specs.Choose.{one}
 use Rattle.counting.specs.Count.{tally, every_of, total, each}
 use Rattle.pool.specs.declared.Shared.{Shared}
 use Rattle.pool.specs.declared.Shared.TheVariants.{Full, Cut, Refused}

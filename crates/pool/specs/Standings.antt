@@ -1,7 +1,7 @@
 -- The numbers by which the code compares wins: where a win stands, the larger the earlier. Nothing that is promised speaks of them.
 -- Assumes nothing.
-use Rattle.std.specs.Prelude.{ℕ, ◌+◌, ◌*◌, ◌-◌, Bool, ◌&&◌, List, leb, ltb, length, get_or}
-use Rattle.counting.specs.Choose.{if◌then◌else◌, one}
+use Rattle.std.specs.Prelude.{ℕ, ◌+◌, ◌*◌, ◌-◌, Bool, ◌&&◌, List, leb, ltb, length, get_or, if◌then◌else◌}
+use Rattle.counting.specs.Choose.{one}
 use Rattle.counting.specs.Count.{above, each}
 use Rattle.pool.specs.Pool.{fraction}
 

@@ -10,7 +10,7 @@ use native.Mathlib.Omega.{arith}
 use lib.Dec.{eqb, ltb, leb}
 use lib.ListN.{get_or}
 use borrow.Author.Tests.{ltb-true, ltb-false, le-leb}
-use Rattle.counting.specs.Choose.{if◌then◌else◌}
+use Rattle.std.specs.Prelude.{if◌then◌else◌}
 use Rattle.counting.specs.Count.{tally}
 use Rattle.counting.proofs.Tests.{clash, and_true, is_false}
 use Rattle.cards.specs.Deck.{whole_deck}

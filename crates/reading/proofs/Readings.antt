@@ -8,7 +8,7 @@ use native.Mathlib.Omega.{arith}
 use lib.Dec.{eqb, ltb}
 use lib.ListN.{length, take, drop, length-append}
 use borrow.Author.Tests.{ne_eqb, eqb-true, eqb-false}
-use Rattle.counting.specs.Choose.{if◌then◌else◌}
+use Rattle.std.specs.Prelude.{if◌then◌else◌}
 use Rattle.counting.proofs.Lists.{every_of_left, every_of_right}
 use Rattle.records.specs.Bytes.{are_bytes}
 use Rattle.round.specs.declared.Round.{Round}

@@ -1,7 +1,6 @@
 -- What the round answers to a record.
 -- Assumes nothing.
-use Rattle.std.specs.Prelude.{ℕ, not, List, eqb, length}
-use Rattle.counting.specs.Choose.{if◌then◌else◌}
+use Rattle.std.specs.Prelude.{ℕ, not, List, eqb, length, if◌then◌else◌}
 use Rattle.records.specs.Bytes.{byte}
 use Rattle.seating.specs.Table.{table_of, table_refusal}
 use Rattle.seating.specs.Seat.{seat_refusal, with_seat}

@@ -1,7 +1,6 @@
 -- The round in progress, and which kind of record may come.
 -- Assumes nothing.
-use Rattle.std.specs.Prelude.{ℕ, Bool, false, not, ◌&&◌, eqb, ltb}
-use Rattle.counting.specs.Choose.{if◌then◌else◌}
+use Rattle.std.specs.Prelude.{ℕ, Bool, false, not, ◌&&◌, eqb, ltb, if◌then◌else◌}
 use Rattle.records.specs.Seats.{any_plays}
 use Rattle.seating.specs.Table.{no_table, has_table}
 use Rattle.seating.specs.Seat.{no_wagers}

@@ -9,7 +9,7 @@ use lib.Dec.{eqb, leb}
 use lib.ListN.{get_or, set, length, length-set}
 use lib.Seq.{get_or-set_same, get_or-set_other}
 use borrow.Author.Tests.{eqb-true, eqb-false, leb-true, le-leb, not-true, not-false}
-use Rattle.counting.specs.Choose.{if◌then◌else◌}
+use Rattle.std.specs.Prelude.{if◌then◌else◌}
 use Rattle.counting.specs.Count.{tally}
 use Rattle.records.specs.Bytes.{byte, word, zero_from, between}
 use Rattle.records.specs.Seats.{place, plays, any_plays}

@@ -1,7 +1,6 @@
 -- The seats and their wagers, in whole dollars.
 -- Assumes nothing.
-use Rattle.std.specs.Prelude.{ℕ, ◌+◌, Bool, not, ◌&&◌, ◌||◌, List, [], ◌∷◌, eqb, leb, get_or, set, replicate}
-use Rattle.counting.specs.Choose.{if◌then◌else◌}
+use Rattle.std.specs.Prelude.{ℕ, ◌+◌, Bool, not, ◌&&◌, ◌||◌, List, [], ◌∷◌, eqb, leb, get_or, set, replicate, if◌then◌else◌}
 use Rattle.counting.specs.Count.{every_below}
 use Rattle.records.specs.Bytes.{byte, word, zero_from, between}
 use Rattle.records.specs.Seats.{place, plays}

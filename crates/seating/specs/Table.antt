@@ -1,7 +1,6 @@
 -- The table: its limits and its pay tables.
 -- Assumes nothing.
-use Rattle.std.specs.Prelude.{ℕ, Bool, not, ◌&&◌, ◌||◌, List, [], ◌∷◌, eqb, leb}
-use Rattle.counting.specs.Choose.{if◌then◌else◌}
+use Rattle.std.specs.Prelude.{ℕ, Bool, not, ◌&&◌, ◌||◌, List, [], ◌∷◌, eqb, leb, if◌then◌else◌}
 use Rattle.records.specs.Bytes.{byte, zero_from, between}
 use Rattle.seating.specs.declared.Table.{Table}
 

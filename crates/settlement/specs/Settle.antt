@@ -1,7 +1,7 @@
 -- What the entries answer, and what the lent list then holds.
 -- Assumes nothing.
-use Rattle.std.specs.Prelude.{ℕ, not, List, [], ◌∷◌, eqb, length}
-use Rattle.counting.specs.Choose.{if◌then◌else◌, unless_refused}
+use Rattle.std.specs.Prelude.{ℕ, not, List, [], ◌∷◌, eqb, length, if◌then◌else◌}
+use Rattle.counting.specs.Choose.{unless_refused}
 use Rattle.round.specs.declared.Round.{Round}
 use Rattle.round.specs.Order.{is_finished}
 use Rattle.led.specs.Held.{is_held}

@@ -1,7 +1,6 @@
 -- A shift: rounds joined end to end, settled in one call.
 -- Assumes nothing.
-use Rattle.std.specs.Prelude.{ℕ, ◌*◌, ◌/◌, ◌%◌, Bool, not, ◌&&◌, List, [], ◌∷◌, map, eqb, length, replicate}
-use Rattle.counting.specs.Choose.{if◌then◌else◌}
+use Rattle.std.specs.Prelude.{ℕ, ◌*◌, ◌/◌, ◌%◌, Bool, not, ◌&&◌, List, [], ◌∷◌, map, eqb, length, replicate, if◌then◌else◌}
 use Rattle.reading.specs.Joined.{joined}
 use Rattle.results.specs.Results.{results_long}
 use Rattle.settlement.specs.Settle.{file_answer, file_list, file_number, file_place}

@@ -1,8 +1,7 @@
 -- Text in a room: what stands in it once bytes are written from a place on, and the digits of numbers.
 -- Assumes nothing.
-use Rattle.std.specs.Prelude.{ℕ, zero, suc, ◌+◌, ◌-◌, ◌/◌, ◌%◌, min, List, [], ◌∷◌, ◌++◌, eqb, ltb, length}
+use Rattle.std.specs.Prelude.{ℕ, zero, suc, ◌+◌, ◌-◌, ◌/◌, ◌%◌, min, List, [], ◌∷◌, ◌++◌, eqb, ltb, length, if◌then◌else◌}
 use Rattle.std.proofs.lemmas.List.Edits.{sets}
-use Rattle.counting.specs.Choose.{if◌then◌else◌}
 
 -- The room once bytes are stored in it, one after the other, from a place on; those that would lie past its end are left out.
 unfoldable pub written : List ℕ → ℕ → List ℕ → List ℕ

@@ -1,7 +1,7 @@
 -- How often each of the thirteen ranks occurs, in one number: hexadecimal digit r is how often rank r does.
 -- Assumes nothing.
-use Rattle.std.specs.Prelude.{ℕ, zero, suc, ◌+◌, ◌-◌, ◌*◌, ◌≤◌, ◌≡◌, Bool, eqb, ltb}
-use Rattle.counting.specs.Choose.{one, if◌then◌else◌}
+use Rattle.std.specs.Prelude.{ℕ, zero, suc, ◌+◌, ◌-◌, ◌*◌, ◌≤◌, ◌≡◌, Bool, eqb, ltb, if◌then◌else◌}
+use Rattle.counting.specs.Choose.{one}
 use Rattle.counting.specs.Count.{sum_below, every_below}
 use Rattle.hands.specs.Hand.{rank_on, run}
 

@@ -1,7 +1,6 @@
 -- Writing the file of a held round.
 -- Assumes nothing.
-use Rattle.std.specs.Prelude.{ℕ, ◌*◌, not, List, eqb, length}
-use Rattle.counting.specs.Choose.{if◌then◌else◌}
+use Rattle.std.specs.Prelude.{ℕ, ◌*◌, not, List, eqb, length, if◌then◌else◌}
 use Rattle.seating.specs.Table.{has_table}
 use Rattle.round.specs.declared.Round.{Round}
 use Rattle.led.specs.Held.{is_held}
