@@ -1,5 +1,5 @@
 use native.Mathlib.Omega.{arith}
-use lib.ListN.{length, length-take, length-drop}
+use lib.ListN.{length-take, length-drop}
 use Rattle.reading.proofs.Records.{rest_of}
 use Rattle.cutting.proofs.Cuts.{first-cut}
 use Rattle.shift.proofs.print_rounds.Goals as goal
