@@ -3,8 +3,8 @@
 // A read or a write that the system only puts off (EINTR, EAGAIN) is tried again. One that fails is told on standard error, with the program's name
 // and the reason. What is read and written can't be said in a contract; how many bytes are can.
 //
-// A program of the kit has no exit status. Called with the one argument `--status`, it writes a digit and a newline to file descriptor 3 as it ends: 0
-// where it did its work, 1 where its answer is a refusal, 2 for a fault of the call, of reading or of writing.
+// A program's own exit status is 0. Called with the one argument `--status`, it writes a digit and a newline to file descriptor 3 as it ends: 0 where it
+// did its work, 1 where its answer is a refusal, 2 for a fault of the call, of reading or of writing.
 
 #![tactic(auto)]
 

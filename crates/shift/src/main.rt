@@ -65,14 +65,19 @@ fn put_round(line: &mut [u8], file: &[u8], amounts: &[u64], answer: &[u64]) -> u
 }
 
 // A line is at most 35 amounts and the pool, of 20 digits each, so it fits its room.
-fn print_round(file: &[u8], amounts: &[u64], answer: &[u64]) -> bool {
+fn print_round(rt: &(impl Print + Eprint), file: &[u8], amounts: &[u64], answer: &[u64]) -> bool {
     let mut line = [0u8; 1024];
     let last = put_round(&mut line, file, amounts, answer);
-    print(&NAME, &line, last)
+    print(rt, &NAME, &line, last)
 }
 
 // Both lists have a row for each round, since they were filled.
-fn print_rounds(file: &[u8], amounts: &[u64], answers: &[u64]) -> Outcome {
+fn print_rounds(
+    rt: &(impl Print + Eprint),
+    file: &[u8],
+    amounts: &[u64],
+    answers: &[u64],
+) -> Outcome {
     let mut rest = file;
     let mut paid = amounts;
     let mut told = answers;
@@ -84,7 +89,7 @@ fn print_rounds(file: &[u8], amounts: &[u64], answers: &[u64]) -> Outcome {
             return Outcome::Fault;
         }
         let end = first_round(rest);
-        if !print_round(&rest[..end], &paid[..RESULTS], &told[..ANSWER]) {
+        if !print_round(rt, &rest[..end], &paid[..RESULTS], &told[..ANSWER]) {
             return Outcome::Fault;
         }
         rest = &rest[end..];
@@ -94,59 +99,59 @@ fn print_rounds(file: &[u8], amounts: &[u64], answers: &[u64]) -> Outcome {
     Outcome::Done
 }
 
-fn print_refused(number: u8, place: usize) -> Outcome {
+fn print_refused(rt: &(impl Print + Eprint), number: u8, place: usize) -> Outcome {
     let mut line = [0u8; 64];
     let last = put_refused(&mut line, number as u64, place as u64);
-    if print(&NAME, &line, last) {
+    if print(rt, &NAME, &line, last) {
         return Outcome::Refused;
     }
     Outcome::Fault
 }
 
-fn too_many() -> Outcome {
-    tell(&NAME, &TOO_LONG);
+fn too_many(rt: &impl Eprint) -> Outcome {
+    tell(rt, &NAME, &TOO_LONG);
     Outcome::Fault
 }
 
 // Into lists that may be longer than the rounds need.
-fn settled(file: &[u8], room: &mut [u64], told: &mut [u64]) -> Outcome {
+fn settled(rt: &(impl Print + Eprint), file: &[u8], room: &mut [u64], told: &mut [u64]) -> Outcome {
     let rounds = count_rounds(file);
     if room.len() / RESULTS < rounds {
-        return too_many();
+        return too_many(rt);
     }
     if told.len() / ANSWER < rounds {
-        return too_many();
+        return too_many(rt);
     }
     let amounts: &mut [u64] = &mut room[..RESULTS * rounds];
     let answers: &mut [u64] = &mut told[..ANSWER * rounds];
     match settle_shift(file, amounts, answers) {
-        ShiftAnswer::Settled { rounds } => print_rounds(file, amounts, answers),
-        ShiftAnswer::Refused { number, place } => print_refused(number, place),
+        ShiftAnswer::Settled { rounds } => print_rounds(rt, file, amounts, answers),
+        ShiftAnswer::Refused { number, place } => print_refused(rt, number, place),
     }
 }
 
-fn settled_in_rooms(file: &[u8]) -> Outcome {
+fn settled_in_rooms(rt: &(impl Print + Eprint), file: &[u8]) -> Outcome {
     let mut room = [0u64; AMOUNTS];
     let mut told = [0u64; ANSWERS];
-    settled(file, &mut room, &mut told)
+    settled(rt, file, &mut room, &mut told)
 }
 
-fn read_and_settled(room: &mut [u8]) -> Outcome {
-    let got = read_all(&NAME, room, &TOO_LONG);
+fn read_and_settled(rt: &(impl Input + Print + Eprint), room: &mut [u8]) -> Outcome {
+    let got = read_all(rt, &NAME, room, &TOO_LONG);
     if got.failed {
         return Outcome::Fault;
     }
-    settled_in_rooms(&room[..got.bytes])
+    settled_in_rooms(rt, &room[..got.bytes])
 }
 
-fn run() -> Outcome {
+fn run(rt: &(impl Input + Print + Eprint)) -> Outcome {
     let mut file = [0u8; BYTES];
-    read_and_settled(&mut file)
+    read_and_settled(rt, &mut file)
 }
 
-fn main() {
-    let call = called(&NAME, true);
+fn main(rt: HostRuntime) {
+    let call = called(&rt, &NAME, true);
     if call.sound {
-        end(&NAME, call, run());
+        end(&rt, &NAME, call, run(&rt));
     }
 }

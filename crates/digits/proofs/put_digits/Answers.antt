@@ -1,8 +1,7 @@
-use Prim.Native.Nat.{◌-◌}
-use mathlib.Core.Path.{◌≡◌, refl}
-use lib.ListN.{length, get_or, drop}
+use mathlib.Core.Path.{refl}
+use lib.ListN.{get_or}
 use Rattle.text.specs.Text.{hex_of}
-use Rattle.text.proofs.Writes.{Onward, onward_more, onward_over}
+use Rattle.text.proofs.Writes.{onward_more, onward_over}
 use Rattle.digits.specs.Digits.{hexes}
 use Rattle.digits.proofs.Spells.{hexes_more, hexes_over}
 use borrow.Author.Rules.{rules}

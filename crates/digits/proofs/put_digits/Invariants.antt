@@ -1,11 +1,8 @@
 use Prim.Native.Nat.{◌-◌}
-use mathlib.Core.Path.{◌≡◌, refl}
-use lib.ListN.{length, get_or, drop}
-use Rattle.text.specs.Text.{hex_of}
-use Rattle.text.proofs.Writes.{Onward, onward_more, onward_over}
+use mathlib.Core.Path.{◌≡◌}
+use lib.ListN.{length, drop}
+use Rattle.text.proofs.Writes.{Onward}
 use Rattle.digits.specs.Digits.{hexes}
-use Rattle.digits.proofs.Spells.{hexes_more, hexes_over}
-use borrow.Author.Rules.{rules}
 use Rattle.digits.proofs.put_digits.Given as goal
 
 abbrev pub invariant-loop-i : goal.invariant-loop-i

@@ -1,7 +1,6 @@
 use mathlib.Core.List.{[], ◌∷◌}
 use Rattle.text.proofs.Writes.{write_both, behind_both}
 use Rattle.digits.specs.Digits.{hexes, trimmed}
-use borrow.Author.Rules.{rules}
 use Rattle.digits.proofs.put_record.Goals as goal
 
 pub returns : goal.returns

@@ -1,7 +1,7 @@
-use mathlib.Core.Path.{◌≡◌, refl}
+use mathlib.Core.Path.{refl}
 use native.Mathlib.Omega.{arith}
-use lib.ListN.{length, take, length-take}
-use Rattle.text.proofs.Writes.{Onward, onward_more, onward_over}
+use lib.ListN.{take, length-take}
+use Rattle.text.proofs.Writes.{onward_more, onward_over}
 use Rattle.reading.specs.File.{file_records}
 use Rattle.reading.proofs.Records.{rest_of}
 use Rattle.digits.specs.Digits.{spelled_one, spelled}

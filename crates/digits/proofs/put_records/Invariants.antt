@@ -1,12 +1,8 @@
-use mathlib.Core.Path.{◌≡◌, refl}
-use native.Mathlib.Omega.{arith}
-use lib.ListN.{length, take, length-take}
-use Rattle.text.proofs.Writes.{Onward, onward_more, onward_over}
+use mathlib.Core.Path.{◌≡◌}
+use lib.ListN.{length}
+use Rattle.text.proofs.Writes.{Onward}
 use Rattle.reading.specs.File.{file_records}
-use Rattle.reading.proofs.Records.{rest_of}
-use Rattle.digits.specs.Digits.{spelled_one, spelled}
-use Rattle.digits.proofs.Spells.{spelled_more, spelled_over}
-use borrow.Author.Rules.{rules}
+use Rattle.digits.specs.Digits.{spelled}
 use Rattle.digits.proofs.put_records.Given as goal
 
 abbrev pub invariant-loop-rest : goal.invariant-loop-rest

@@ -1,8 +1,6 @@
-use Prim.Native.Nat.{◌-◌}
 use mathlib.Core.Path.{refl, sym, ◌∙◌}
-use lib.ListN.{length}
 use lib.Seq.{length-take-le}
-use Rattle.digits.proofs.Spells.{Kept, kept_more, kept_zero, kept_all}
+use Rattle.digits.proofs.Spells.{kept_more, kept_zero, kept_all}
 use borrow.Author.Rules.{rules}
 use Rattle.digits.proofs.trim.Goals as goal
 
