@@ -19,8 +19,8 @@ unfoldable pub kinds : ℕ → ℕ → ℕ → (ℕ → ℕ) → ℕ
 kinds k lo n h = tally n (λ i. eqb (h (lo + i)) k)
 
 -- how many of the thirteen ranks occur exactly k times
-abbrev pub of_aKind : ℕ → (ℕ → ℕ) → ℕ
-of_aKind k h = kinds k two 13 h
+abbrev pub of_a_kind : ℕ → (ℕ → ℕ) → ℕ
+of_a_kind k h = kinds k two 13 h
 
 -- n cards are of one suit
 unfoldable pub flush : ℕ → (ℕ → ℕ) → Bool

@@ -9,7 +9,7 @@ use Rattle.std.specs.Prelude.{if◌then◌else◌}
 use Rattle.counting.specs.Count.{sum_below}
 use Rattle.counting.proofs.Tests.{clash, is_false}
 use Rattle.cards.specs.Card.{six, jack}
-use Rattle.hands.specs.Hand.{kinds, of_aKind, flush, run, straight}
+use Rattle.hands.specs.Hand.{kinds, of_a_kind, flush, run, straight}
 use Rattle.words.specs.Word.{apart}
 use Rattle.words.proofs.Apart.{none_of_a_kind}
 use Rattle.words.proofs.Lines.{straight-apart, royal_straight}
@@ -34,11 +34,11 @@ module _ (h t : ℕ → ℕ) where
       )
 
   pub some_alike : sum_below 13 h ≤ 5 → apart h ≡ false
-      → (if eqb (of_aKind 4 h) 1 then FourOfAKind
-      else if eqb (of_aKind 3 h) 1 && eqb (of_aKind 2 h) 1 then FullHouse
+      → (if eqb (of_a_kind 4 h) 1 then FourOfAKind
+      else if eqb (of_a_kind 3 h) 1 && eqb (of_a_kind 2 h) 1 then FullHouse
       else if flush 5 t then Flush
-      else if eqb (of_aKind 3 h) 1 then ThreeOfAKind
-      else if eqb (of_aKind 2 h) 2 then TwoPair
+      else if eqb (of_a_kind 3 h) 1 then ThreeOfAKind
+      else if eqb (of_a_kind 2 h) 2 then TwoPair
       else if eqb (kinds 2 jack 4 h) 1 then JacksToAces
       else if eqb (kinds 2 six 5 h) 1 then SixesToTens
       else Other) ≡ five_by h t

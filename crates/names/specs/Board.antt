@@ -1,7 +1,7 @@
 -- The name of the three cards of the board.
 -- Assumes nothing.
 use Rattle.std.specs.Prelude.{ℕ, ◌&&◌, List, [], ◌∷◌, eqb, if◌then◌else◌}
-use Rattle.hands.specs.Hand.{of_rank, of_suit, of_aKind, flush, run, straight, hand_refusal}
+use Rattle.hands.specs.Hand.{of_rank, of_suit, of_a_kind, flush, run, straight, hand_refusal}
 use Rattle.names.specs.Answer.{answer}
 use Rattle.names.specs.declared.BoardName.{BoardName}
 use Rattle.names.specs.declared.BoardName.TheVariants.{Royal, StraightFlush, ThreeOfAKind, Straight, Flush, Pair, Other}
@@ -14,10 +14,10 @@ unfoldable pub board_by : (ℕ → ℕ) → (ℕ → ℕ) → BoardName
 board_by h t =
     if flush 3 t && run 3 12 h then Royal
     else if flush 3 t && straight 3 h then StraightFlush
-    else if eqb (of_aKind 3 h) 1 then ThreeOfAKind
+    else if eqb (of_a_kind 3 h) 1 then ThreeOfAKind
     else if straight 3 h then Straight
     else if flush 3 t then Flush
-    else if eqb (of_aKind 2 h) 1 then Pair
+    else if eqb (of_a_kind 2 h) 1 then Pair
     else Other
 
 unfoldable pub name_board : List ℕ → BoardName

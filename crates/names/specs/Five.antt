@@ -2,7 +2,7 @@
 -- Assumes nothing.
 use Rattle.std.specs.Prelude.{ℕ, ◌&&◌, List, [], ◌∷◌, eqb, if◌then◌else◌}
 use Rattle.cards.specs.Card.{six, jack}
-use Rattle.hands.specs.Hand.{of_rank, of_suit, kinds, of_aKind, flush, run, straight, hand_refusal}
+use Rattle.hands.specs.Hand.{of_rank, of_suit, kinds, of_a_kind, flush, run, straight, hand_refusal}
 use Rattle.names.specs.Answer.{answer}
 use Rattle.names.specs.declared.FiveName.{FiveName}
 use Rattle.names.specs.declared.FiveName.TheVariants.{RoyalFlush, StraightFlush, FourOfAKind, FullHouse, Flush, Straight, ThreeOfAKind, TwoPair, JacksToAces, SixesToTens, Other}
@@ -15,12 +15,12 @@ unfoldable pub five_by : (ℕ → ℕ) → (ℕ → ℕ) → FiveName
 five_by h t =
     if flush 5 t && run 5 10 h then RoyalFlush
     else if flush 5 t && straight 5 h then StraightFlush
-    else if eqb (of_aKind 4 h) 1 then FourOfAKind
-    else if eqb (of_aKind 3 h) 1 && eqb (of_aKind 2 h) 1 then FullHouse
+    else if eqb (of_a_kind 4 h) 1 then FourOfAKind
+    else if eqb (of_a_kind 3 h) 1 && eqb (of_a_kind 2 h) 1 then FullHouse
     else if flush 5 t then Flush
     else if straight 5 h then Straight
-    else if eqb (of_aKind 3 h) 1 then ThreeOfAKind
-    else if eqb (of_aKind 2 h) 2 then TwoPair
+    else if eqb (of_a_kind 3 h) 1 then ThreeOfAKind
+    else if eqb (of_a_kind 2 h) 2 then TwoPair
     else if eqb (kinds 2 jack 4 h) 1 then JacksToAces
     else if eqb (kinds 2 six 5 h) 1 then SixesToTens
     else Other

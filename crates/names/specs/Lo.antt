@@ -1,7 +1,7 @@
 -- The Lo Ball name of five cards.
 -- Assumes nothing.
 use Rattle.std.specs.Prelude.{ℕ, Bool, not, ◌&&◌, List, [], ◌∷◌, eqb, if◌then◌else◌}
-use Rattle.hands.specs.Hand.{of_rank, of_suit, of_aKind, flush, straight, highest, hand_refusal}
+use Rattle.hands.specs.Hand.{of_rank, of_suit, of_a_kind, flush, straight, highest, hand_refusal}
 use Rattle.names.specs.Answer.{answer}
 use Rattle.names.specs.declared.LoName.{LoName}
 use Rattle.names.specs.declared.LoName.TheVariants.{High, Nothing}
@@ -10,7 +10,7 @@ use Rattle.names.specs.declared.LoAnswer.TheVariants.{Name, Refused}
 
 -- all five ranks differ, and there is no straight or flush
 unfoldable pub is_lo : (ℕ → ℕ) → (ℕ → ℕ) → Bool
-is_lo h t = eqb (of_aKind 1 h) 5 && not (straight 5 h) && not (flush 5 t)
+is_lo h t = eqb (of_a_kind 1 h) 5 && not (straight 5 h) && not (flush 5 t)
 
 -- Lo Ball, five cards: if all ranks differ and there is no straight or flush, the highest rank, ace high; otherwise nothing
 unfoldable pub lo_by : (ℕ → ℕ) → (ℕ → ℕ) → LoName

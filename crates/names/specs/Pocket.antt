@@ -2,7 +2,7 @@
 -- Assumes nothing.
 use Rattle.std.specs.Prelude.{ℕ, Bool, ◌&&◌, List, [], ◌∷◌, eqb, if◌then◌else◌}
 use Rattle.cards.specs.Card.{jack, ace}
-use Rattle.hands.specs.Hand.{of_rank, of_suit, kinds, of_aKind, flush, hand_refusal}
+use Rattle.hands.specs.Hand.{of_rank, of_suit, kinds, of_a_kind, flush, hand_refusal}
 use Rattle.names.specs.Answer.{answer}
 use Rattle.names.specs.declared.PocketName.{PocketName}
 use Rattle.names.specs.declared.PocketName.TheVariants.{Aces, AceFaceSuited, AceFace, OtherPair, Nothing}
@@ -19,7 +19,7 @@ pocket_by h t =
     if eqb (h ace) 2 then Aces
     else if ace_face h && flush 2 t then AceFaceSuited
     else if ace_face h then AceFace
-    else if eqb (of_aKind 2 h) 1 then OtherPair
+    else if eqb (of_a_kind 2 h) 1 then OtherPair
     else Nothing
 
 unfoldable pub name_pocket : List ℕ → PocketName

@@ -77,16 +77,16 @@ module _ (b : List ℕ) where
   -- ---- any record
 
   -- what goes by the kind is the same where it is the same of a table record and of a seat record
-  by_kind : {A : Type 0} (table oldTable seat oldSeat other : A) → says_nothing b ≡ true
-      → (byte b 7 ≡ 0 → table ≡ oldTable)
-      → (byte b 10 ≡ 0 → byte b 11 ≡ 0 → seat ≡ oldSeat)
+  by_kind : {A : Type 0} (table old_table seat old_seat other : A) → says_nothing b ≡ true
+      → (byte b 7 ≡ 0 → table ≡ old_table)
+      → (byte b 10 ≡ 0 → byte b 11 ≡ 0 → seat ≡ old_seat)
       → (if eqb (byte b 0) 1 then table else if eqb (byte b 0) 2 then seat else other)
-      ≡ (if eqb (byte b 0) 1 then oldTable else if eqb (byte b 0) 2 then oldSeat else other)
+      ≡ (if eqb (byte b 0) 1 then old_table else if eqb (byte b 0) 2 then old_seat else other)
   unfolding says_nothing
-  by_kind {A} table oldTable seat oldSeat other says f g = go (eqb (byte b 0) 1) (eqb (byte b 0) 2) says
+  by_kind {A} table old_table seat old_seat other says f g = go (eqb (byte b 0) 1) (eqb (byte b 0) 2) says
     where
       go : (one two : Bool) → (if one then eqb (byte b 7) 0 else if two then eqb (byte b 10) 0 && eqb (byte b 11) 0 else true) ≡ true
-          → ◌≡◌ {A = A} (if one then table else if two then seat else other) (if one then oldTable else if two then oldSeat else other)
+          → ◌≡◌ {A = A} (if one then table else if two then seat else other) (if one then old_table else if two then old_seat else other)
       go true two e = f (eqb-true (byte b 7) 0 e)
       go false true e =
           let zeros = and_true (eqb (byte b 10) 0) (eqb (byte b 11) 0) e in

@@ -12,7 +12,7 @@ use Rattle.std.specs.Prelude.{if◌then◌else◌}
 use Rattle.counting.proofs.Tests.{and_true}
 use Rattle.counting.proofs.Ranges.{some_where, some_here}
 use Rattle.cards.specs.Card.{six, jack}
-use Rattle.hands.specs.Hand.{of_rank, of_suit, kinds, of_aKind, flush, run, straight}
+use Rattle.hands.specs.Hand.{of_rank, of_suit, kinds, of_a_kind, flush, run, straight}
 use Rattle.names.specs.Five.{five_by, name_five, five_place}
 use Rattle.names.specs.Top.{is_royal, is_top}
 use Rattle.tops.specs.Run.{SuitedRun}
@@ -35,12 +35,12 @@ module _ (h t : ℕ → ℕ) where
   unfolding five_by
   lower p q =
       rw (p, q)
-      (from 2 (eqb (of_aKind 4 h) 1) FourOfAKind _ (omega arith)
-      (from 2 (eqb (of_aKind 3 h) 1 && eqb (of_aKind 2 h) 1) FullHouse _ (omega arith)
+      (from 2 (eqb (of_a_kind 4 h) 1) FourOfAKind _ (omega arith)
+      (from 2 (eqb (of_a_kind 3 h) 1 && eqb (of_a_kind 2 h) 1) FullHouse _ (omega arith)
       (from 2 (flush 5 t) Flush _ (omega arith)
       (from 2 (straight 5 h) Straight _ (omega arith)
-      (from 2 (eqb (of_aKind 3 h) 1) ThreeOfAKind _ (omega arith)
-      (from 2 (eqb (of_aKind 2 h) 2) TwoPair _ (omega arith)
+      (from 2 (eqb (of_a_kind 3 h) 1) ThreeOfAKind _ (omega arith)
+      (from 2 (eqb (of_a_kind 2 h) 2) TwoPair _ (omega arith)
       (from 2 (eqb (kinds 2 jack 4 h) 1) JacksToAces _ (omega arith)
       (from 2 (eqb (kinds 2 six 5 h) 1) SixesToTens Other (omega arith) (omega arith)))))))))
 

@@ -15,7 +15,7 @@ use Rattle.counting.proofs.Ranges.{every_at, some_where, some_here}
 use Rattle.counting.proofs.Sums.{heaps_within, heaps_whole, heaps_full, sum_le}
 use Rattle.counting.proofs.Tests.{and_true, both, same_true, one_le, one_true}
 use Rattle.cards.specs.Card.{rank, suit}
-use Rattle.hands.specs.Hand.{of_rank, of_suit, of_aKind, flush, highest}
+use Rattle.hands.specs.Hand.{of_rank, of_suit, of_a_kind, flush, highest}
 use Rattle.hands.proofs.Highest.{highest_is}
 use Rattle.words.specs.Word.{digits, word, apart}
 use Rattle.words.proofs.Digits.{digits_same, digits_le, digits_add, digits-none}
@@ -29,16 +29,22 @@ each-rank : every_below 13 (λ k. eqb (1 * 2 ^ (4 * k) % 18446744073709551616) (
 unfolding every_below digits
 each-rank = refl
 
-pub rank-word : (k : ℕ) → k < 13 → 1 * 2 ^ (4 * k) % 18446744073709551616 ≡ word (λ r. one (eqb k r))
-rank-word k l = eqb-true _ _ (every_at (λ k. eqb (1 * 2 ^ (4 * k) % 18446744073709551616) (word (λ r. one (eqb k r)))) 13 each-rank k l)
+pub power_of : (k : ℕ) → k < 13 → 1 * 2 ^ (4 * k) % 18446744073709551616 ≡ word (λ r. one (eqb k r))
+power_of k l = eqb-true _ _ (every_at (λ k. eqb (1 * 2 ^ (4 * k) % 18446744073709551616) (word (λ r. one (eqb k r)))) 13 each-rank k l)
 
-pub no_rank_word : (k : ℕ) → 13 ≤ k → 0 ≡ word (λ r. one (eqb k r))
-no_rank_word k past = sym (digits-none 13 (λ r. one (eqb k r)) (λ r l. ap one (ne_eqb k r (λ z. omega arith))))
+pub no_power : (k : ℕ) → 13 ≤ k → 0 ≡ word (λ r. one (eqb k r))
+no_power k past = sym (digits-none 13 (λ r. one (eqb k r)) (λ r l. ap one (ne_eqb k r (λ z. omega arith))))
 
 -- and a card is its rank
 pub alone : (c : ℕ) → word (λ r. one (eqb (rank c) r)) ≡ word (of_rank (c ∷ []))
 unfolding of_rank count
 alone c = digits_same 13 (λ r. one (eqb (rank c) r)) (of_rank (c ∷ [])) (λ r l. omega arith)
+
+pub rank-word : (c : ℕ) → rank c < 13 → 1 * 2 ^ (4 * rank c) % 18446744073709551616 ≡ word (of_rank (c ∷ []))
+rank-word c l = power_of (rank c) l ∙ alone c
+
+pub no_rank_word : (c : ℕ) → 13 ≤ rank c → 0 ≡ word (of_rank (c ∷ []))
+no_rank_word c past = no_power (rank c) past ∙ alone c
 
 -- the word of some cards and others
 pub word_both : (cs ds : List ℕ) → word (of_rank (cs ++ ds)) ≡ word (of_rank cs) + word (of_rank ds)
@@ -152,7 +158,7 @@ all_counted c cs =
     eq-eqb _ _ (heaps_whole rank 13 (c ∷ cs) (λ k h. omega (arith, ltb-true (get_or (c ∷ cs) k 0) 52 (low k h)))))
 
 pub five_ranks : (a b c d e : ℕ)
-    → (apart (of_rank (a ∷ b ∷ c ∷ d ∷ e ∷ [])) && ltb (max a (max b (max c (max d e)))) 52) ≡ eqb (of_aKind 1 (of_rank (a ∷ b ∷ c ∷ d ∷ e ∷ []))) 5
+    → (apart (of_rank (a ∷ b ∷ c ∷ d ∷ e ∷ [])) && ltb (max a (max b (max c (max d e)))) 52) ≡ eqb (of_a_kind 1 (of_rank (a ∷ b ∷ c ∷ d ∷ e ∷ []))) 5
 unfolding largest
 five_ranks a b c d e =
     let cs = a ∷ b ∷ c ∷ d ∷ e ∷ [] in
@@ -163,7 +169,7 @@ highest_card : (c : ℕ) (cs : List ℕ) → sum_below 13 (of_rank (c ∷ cs)) �
 highest_card c cs e = sym (highest_is 13 (rank (largest c cs)) (of_rank (c ∷ cs)) (all_below c cs e) (there c cs) (λ r l m. none_above c cs r l))
 
 -- where five ranks differ, the rank r of the largest card
-pub five-highest : (a b c d e : ℕ) → of_aKind 1 (of_rank (a ∷ b ∷ c ∷ d ∷ e ∷ [])) ≡ 5
+pub five-highest : (a b c d e : ℕ) → of_a_kind 1 (of_rank (a ∷ b ∷ c ∷ d ∷ e ∷ [])) ≡ 5
     → (r : ℕ) → r ≡ rank (max a (max b (max c (max d e)))) → r ≡ highest 13 (of_rank (a ∷ b ∷ c ∷ d ∷ e ∷ []))
 unfolding largest
 five-highest a b c d e five r is =

@@ -9,7 +9,7 @@
 ghost use Rattle.std.specs.Prelude.{◌≡◌, [], ◌∷◌, max, eqb};
 ghost use Rattle.counting.specs.Choose.{one};
 ghost use Rattle.cards.specs.Card.{rank, six, jack, ace};
-ghost use Rattle.hands.specs.Hand.{of_rank, of_suit, kinds, of_aKind, flush, run, straight};
+ghost use Rattle.hands.specs.Hand.{of_rank, of_suit, kinds, of_a_kind, flush, run, straight};
 ghost use Rattle.words.specs.Word.{digits, word, those, on_line, starts, apart, Says};
 
 // A rank alone is 16 to its power, and a number that is none is 0.
@@ -62,7 +62,7 @@ pub fn fours(w: u64) -> u64
 }
 
 pub fn has_four(w: u64) -> bool
-    ensures { Says 5 w (λ h. eqb (of_aKind 4 h) 1) result }
+    ensures { Says 5 w (λ h. eqb (of_a_kind 4 h) 1) result }
 {
     fours(w) != 0
 }
@@ -75,7 +75,7 @@ pub fn threes(w: u64) -> u64
 }
 
 pub fn has_three(w: u64) -> bool
-    ensures { Says 5 w (λ h. eqb (of_aKind 3 h) 1) result }
+    ensures { Says 5 w (λ h. eqb (of_a_kind 3 h) 1) result }
 {
     threes(w) != 0
 }
@@ -89,7 +89,7 @@ pub fn twos(w: u64) -> u64
 
 // 16 leaves 1 by 15, so that what a number leaves is the sum of its digits.
 pub fn pairs_in(w: u64) -> u64
-    ensures { Says 5 w (of_aKind 2) result }
+    ensures { Says 5 w (of_a_kind 2) result }
 {
     twos(w) % 15
 }
@@ -190,7 +190,7 @@ pub fn top_rank(a: u8, b: u8, c: u8, d: u8, e: u8) -> u8
 
 // The ranks of five cards all differ: none occurs twice, and all five are cards.
 pub fn are_five(a: u8, b: u8, c: u8, d: u8, e: u8) -> bool
-    ensures { result ≡ eqb (of_aKind 1 (of_rank (a ∷ b ∷ c ∷ d ∷ e ∷ []))) 5 }
+    ensures { result ≡ eqb (of_a_kind 1 (of_rank (a ∷ b ∷ c ∷ d ∷ e ∷ []))) 5 }
 {
     is_apart(word5(a, b, c, d, e)) & (largest5(a, b, c, d, e) < 52)
 }
