@@ -1,4 +1,4 @@
-/* Ripplehatch: takes a round of Cajun Stud record by record, and settles it, or a shift of rounds at once. Link with libripplehatch.a (rt staticlib ripplehatch), on x86-64.
+/* Ripplehatch: takes a round of Cajun Stud record by record, and settles it, or a shift of rounds at once. Link with libripplehatch.a (bench/library), on x86-64.
  *
  * Every function answers every input: there is nothing that a caller has to check first. Three things are C's own to keep. No pointer may be null, neither one to
  * a list nor one to a number; of a list of 0 numbers any other pointer will do. A pointer and the number after it are a list that is really there. Nothing that is
