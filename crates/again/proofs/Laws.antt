@@ -21,7 +21,8 @@ use Rattle.reading.specs.declared.Reading.{Reading}
 use Rattle.reading.specs.File.{stop, file_records, read_file}
 use Rattle.reading.proofs.Records.{records_count, records_joined}
 use Rattle.reading.proofs.Readings.{leads_whole, joined_read, read_count, read_even, read_leads}
-use Rattle.writing.specs.Write.{file_of, write_answer, write_list, write_number}
+use Rattle.writing.specs.Write.{file_of, write_answer, write_list}
+use Rattle.causes.specs.Refusal.{number_of}
 use Rattle.writing.proofs.Files.{own_lead, file_long_lem}
 use Rattle.writing.proofs.Answers.{write_done}
 use Rattle.results.specs.Results.{results_long}
@@ -38,7 +39,7 @@ unfolding file_of
 read_back r l = joined_read (records_of r) r (own_lead r l) ∙ ap (stop r 0) (led-count r (records_of r) (own_lead r l))
 
 -- so the room that the entry has written is read
-pub room_read_back : (r : Round) (lent : List ℕ) → Decides r (is_held r) → write_number (write_answer r (length lent)) ≡ 0
+pub room_read_back : (r : Round) (lent : List ℕ) → Decides r (is_held r) → number_of (write_answer r (length lent)) ≡ 0
     → read_file (write_list r lent) ≡ stop r 0 (records_taken r)
 room_read_back r lent d z = let w = write_done r lent d z in rw w.0 (read_back r w.1)
 

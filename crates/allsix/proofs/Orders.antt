@@ -1,23 +1,19 @@
 -- The order of the six cards plays no part in their name, nor in its refusal.
 -- Assumes nothing.
 use Prim.Native.Nat.{ℕ, zero, suc, ◌≤◌, ◌<◌}
-use mathlib.Core.Path.{◌≡◌, refl, sym, ap, ◌∙◌}
-use mathlib.Core.Bool.{Bool, true, false}
+use mathlib.Core.Path.{◌≡◌, sym, ap, ◌∙◌}
 use mathlib.Core.List.{List}
 use native.Mathlib.Omega.{arith}
-use lib.Dec.{eqb}
 use lib.ListN.{length}
-use borrow.Author.Tests.{eqb-true, eqb-false}
 use Rattle.counting.specs.Order.{Reordered}
 use Rattle.counting.specs.Order.Reordered.{none, keep, swap, then}
 use Rattle.counting.proofs.Orders.{same, back, reordered_length}
 use Rattle.hands.specs.Hand.{hand_refusal}
 use Rattle.hands.proofs.Refusals.{not_refused}
 use Rattle.names.specs.Five.{name_five, five_place}
-use Rattle.names.proofs.Answers.{is_refused}
+use Rattle.names.proofs.Answers.{answered_same}
 use Rattle.names.proofs.Orders.{by_counts, refusal_reordered, five_reordered}
 use Rattle.names.proofs.Places.{same_place}
-use Rattle.allsix.specs.declared.SixAnswer.TheVariants.{Name, Refused}
 use Rattle.allsix.specs.Six.{without, best_of_six, six_royal, name_six, answer_six}
 use Rattle.allsix.proofs.Best.{best_is_best, best_is_one}
 
@@ -56,11 +52,6 @@ module _ {xs ys : List ℕ} (other : Reordered xs ys) where
   -- of any lists: where they aren't six cards, both are refused
   pub answer_six_reordered : answer_six xs ≡ answer_six ys
   unfolding answer_six
-  answer_six_reordered = go (eqb (hand_refusal 6 xs) 0) refl
-    where
-      go : (b : Bool) → eqb (hand_refusal 6 xs) 0 ≡ b → answer_six xs ≡ answer_six ys
-      go true e = rw (refusal_reordered other 6, six_reordered (not_refused 6 xs (eqb-true _ _ e)).0)
-      go false e =
-          let some : (hand_refusal 6 xs ≡ 0 → ⊥) = eqb-false (hand_refusal 6 xs) 0 e in
-          sym (is_refused Name Refused (name_six xs) (hand_refusal 6 xs) (hand_refusal 6 xs) refl some)
-          ∙ is_refused Name Refused (name_six ys) (hand_refusal 6 xs) (hand_refusal 6 ys) (refusal_reordered other 6) some
+  answer_six_reordered =
+      let refusal = refusal_reordered other 6 in
+      rw refusal (answered_same (hand_refusal 6 ys) (λ none. six_reordered (not_refused 6 xs (refusal ∙ none)).0))

@@ -1,14 +1,14 @@
 -- The All-Six name of six cards.
 -- Assumes nothing.
-use Rattle.std.specs.Prelude.{ℕ, zero, suc, ◌+◌, Bool, ◌&&◌, List, [], ◌∷◌, eqb, leb, if◌then◌else◌}
+use Rattle.std.specs.Prelude.{ℕ, zero, suc, ◌+◌, Bool, ◌&&◌, List, [], ◌∷◌, Result, eqb, leb, if◌then◌else◌}
+use Rattle.causes.specs.declared.Refusal.{Refusal}
+use Rattle.causes.specs.Refusal.{answered}
 use Rattle.hands.specs.Hand.{of_rank, of_suit, flush, run, hand_refusal}
-use Rattle.names.specs.Answer.{answer}
+use Rattle.names.specs.Answer.{told}
 use Rattle.names.specs.declared.FiveName.{FiveName}
 use Rattle.names.specs.Five.{name_five, five_place}
 use Rattle.allsix.specs.declared.SixName.{SixName}
 use Rattle.allsix.specs.declared.SixName.TheVariants.{RoyalOfDiamonds, Royal, Five}
-use Rattle.allsix.specs.declared.SixAnswer.{SixAnswer}
-use Rattle.allsix.specs.declared.SixAnswer.TheVariants.{Name, Refused}
 
 -- the cards but for the one at place k
 unfoldable pub without : ℕ → List ℕ → List ℕ
@@ -41,8 +41,8 @@ name_six cs =
     else Five (best_of_six cs)
 
 -- what is answered on any cards
-unfoldable pub answer_six : List ℕ → SixAnswer
-answer_six cs = answer Name Refused (hand_refusal 6 cs) (name_six cs)
+unfoldable pub answer_six : List ℕ → Result SixName Refusal
+answer_six cs = answered (hand_refusal 6 cs) (name_six cs)
 
 -- a name's place from the top: the six-card royals, then the names of five cards
 abbrev pub six_place : SixName → ℕ
@@ -50,16 +50,6 @@ six_place RoyalOfDiamonds = 0
 six_place Royal = 1
 six_place (Five name) = five_place name + 2
 
--- this paper's number for each answer, the refusal's and 0 for a name, and what the answer gives besides: the name's place
-abbrev pub six_number : SixAnswer → ℕ
-six_number (Name name) = 0
-six_number (Refused number) = number
-
-abbrev pub six_values : SixAnswer → List ℕ
-six_values (Name name) = six_place name ∷ []
-six_values (Refused number) = []
-
 -- what is told of a name to one who lends a number for it: its place; of a refusal nothing, and the number is what it was
-abbrev pub six_told : SixAnswer → ℕ → ℕ
-six_told (Name name) was = six_place name
-six_told (Refused number) was = was
+abbrev pub six_told : Result SixName Refusal → ℕ → ℕ
+six_told = told six_place

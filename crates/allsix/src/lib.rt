@@ -1,21 +1,24 @@
 // The All-Six hand: what six cards are called.
 //
-// name_six is the entry: it answers any bytes with the name or with refusal 18 (another number of cards), then 11 (a card above 51, or a
-// repeat). six_by_word names six cards, any bytes, for callers that know them to be sound. Each of the six ways to leave one card out is named by its
-// word; no hand is copied.
+// name_six is the entry: it answers any bytes with Ok and the name, or with Err and refusal HandLength (another number of cards), then Card (a card above
+// 51, or a repeat). six_by_word names six cards, any bytes, for callers that know them to be sound. Each of the six ways to leave one card out is named by its
+// word; no hand is sorted or looked up in a table.
 //
 // proofs/Best.antt has the law that no five of the six have a higher name and some have this one, proofs/Orders.antt that the order of the cards plays no part.
 
 #![tactic(auto)]
 
 ghost use Rattle.std.specs.Prelude.{◌≡◌, [], ◌∷◌};
+ghost use Rattle.causes.specs.Refusal.{number_of};
 ghost use Rattle.counting.specs.Choose.{unless_refused};
 ghost use Rattle.hands.specs.Hand.{hand_refusal};
-ghost use Rattle.allsix.specs.Six.{higher, best_of_six, six_royal, name_six, answer_six, six_place, six_number, six_values, six_told};
+ghost use Rattle.allsix.specs.Six.{higher, best_of_six, six_royal, name_six, answer_six, six_place, six_told};
+ghost use Rattle.names.specs.Answer.{values_of};
 
+use causes::{Refusal, number_of};
 use names::{FiveName, five_of_word, five_place};
 
-#[derive(Clone, Copy)]
+#[derive(Clone, Copy, PartialEq, Eq, Debug)]
 pub enum SixName {
     // Nine to ace of diamonds.
     RoyalOfDiamonds,
@@ -25,19 +28,11 @@ pub enum SixName {
     Five(FiveName),
 }
 
-#[derive(Clone, Copy)]
-pub enum SixAnswer {
-    Name(SixName),
-    Refused(u8),
-}
-
+#[tactic(auto, unfolding(crate::specs::Six::higher))]
 fn higher_of(a: FiveName, b: FiveName) -> FiveName
     ensures { result ≡ higher a b }
 {
-    if five_place(a) <= five_place(b) {
-        return a;
-    }
-    b
+    if five_place(a) <= five_place(b) { a } else { b }
 }
 
 // The best of the six names that leaving out one card gives. The ranks are counted once, in the word of all six; a card's own is taken from it where that card is
@@ -52,63 +47,56 @@ fn best_of_six(a: u8, b: u8, c: u8, d: u8, e: u8, f: u8) -> FiveName
     let we = words::word1(e);
     let wf = words::word1(f);
     let all = wa + wb + wc + wd + we + wf;
-    let first = five_of_word(all - wa, words::is_suited5(b, c, d, e, f));
+    let first = five_of_word(all - wa, words::is_suited(&[b, c, d, e, f]));
     let second = higher_of(
-        five_of_word(all - wb, words::is_suited5(a, c, d, e, f)),
+        five_of_word(all - wb, words::is_suited(&[a, c, d, e, f])),
         first,
     );
     let third = higher_of(
-        five_of_word(all - wc, words::is_suited5(a, b, d, e, f)),
+        five_of_word(all - wc, words::is_suited(&[a, b, d, e, f])),
         second,
     );
     let fourth = higher_of(
-        five_of_word(all - wd, words::is_suited5(a, b, c, e, f)),
+        five_of_word(all - wd, words::is_suited(&[a, b, c, e, f])),
         third,
     );
     let fifth = higher_of(
-        five_of_word(all - we, words::is_suited5(a, b, c, d, f)),
+        five_of_word(all - we, words::is_suited(&[a, b, c, d, f])),
         fourth,
     );
     higher_of(
-        five_of_word(all - wf, words::is_suited5(a, b, c, d, e)),
+        five_of_word(all - wf, words::is_suited(&[a, b, c, d, e])),
         fifth,
     )
 }
 
 // Nine to ace of one suit. Few hands are of one suit, so the ranks are looked at last.
-fn is_six_royal(a: u8, b: u8, c: u8, d: u8, e: u8, f: u8) -> bool
-    ensures { result ≡ six_royal (a ∷ b ∷ c ∷ d ∷ e ∷ f ∷ []) }
+fn is_six_royal(cards: [u8; 6]) -> bool
+    ensures { result ≡ six_royal cards }
 {
-    if words::is_suited6(a, b, c, d, e, f) {
-        let cards = [a, b, c, d, e, f];
-        return hands::is_run(&cards, 6, 9);
-    }
-    false
+    words::is_suited(&cards) && hands::is_run(&cards, 6, 9)
 }
 
-pub fn six_by_word(a: u8, b: u8, c: u8, d: u8, e: u8, f: u8) -> SixName
-    ensures { result ≡ name_six (a ∷ b ∷ c ∷ d ∷ e ∷ f ∷ []) }
+pub fn six_by_word(cards: [u8; 6]) -> SixName
+    ensures { result ≡ name_six cards }
 {
-    if is_six_royal(a, b, c, d, e, f) {
-        let cards = [a, b, c, d, e, f];
-        if hands::of_suit(&cards, 1) == 6 {
-            return SixName::RoyalOfDiamonds;
-        }
-        return SixName::Royal;
+    if !is_six_royal(cards) {
+        let [a, b, c, d, e, f] = cards;
+        SixName::Five(best_of_six(a, b, c, d, e, f))
+    } else if hands::of_suit(&cards, 1) == 6 {
+        SixName::RoyalOfDiamonds
+    } else {
+        SixName::Royal
     }
-    SixName::Five(best_of_six(a, b, c, d, e, f))
 }
 
-pub fn name_six(cards: &[u8]) -> SixAnswer
+pub fn name_six(cards: &[u8]) -> Result<SixName, Refusal>
     ensures answer { result ≡ answer_six cards.now }
-    ensures number { six_number result ≡ hand_refusal 6 cards.now }
-    ensures values { six_values result ≡ unless_refused (hand_refusal 6 cards.now) (six_place (name_six cards.now) ∷ []) }
+    ensures number { number_of result ≡ hand_refusal 6 cards.now }
+    ensures values { values_of six_place result ≡ unless_refused (hand_refusal 6 cards.now) (six_place (name_six cards.now) ∷ []) }
 {
-    let refusal = hands::hand_refusal(cards, 6);
-    if refusal != 0 {
-        return SixAnswer::Refused(refusal);
-    }
-    SixAnswer::Name(six_by_word(cards[0], cards[1], cards[2], cards[3], cards[4], cards[5]))
+    hands::hand_refusal(cards, 6)?;
+    Ok(six_by_word([cards[0], cards[1], cards[2], cards[3], cards[4], cards[5]]))
 }
 
 // A name's place from the top.
@@ -122,30 +110,14 @@ fn six_place(name: SixName) -> usize
     }
 }
 
-fn six_number(answer: SixAnswer) -> u8
-    ensures { result ≡ six_number answer }
-{
-    match answer {
-        SixAnswer::Name(name) => 0,
-        SixAnswer::Refused(number) => number,
-    }
-}
-
-fn six_told(answer: SixAnswer, was: usize) -> usize
-    ensures { result ≡ six_told answer was }
-{
-    match answer {
-        SixAnswer::Name(name) => six_place(name),
-        SixAnswer::Refused(number) => was,
-    }
-}
-
 // name_six by numbers: answers 0 and tells the name's place, or answers the refusal's number.
 pub fn name_six_told(cards: &[u8], name: &mut usize) -> u8
     ensures number { result ≡ hand_refusal 6 cards.now }
     ensures name { name.new ≡ six_told (answer_six cards.now) name.old }
 {
     let answer = name_six(cards);
-    *name = six_told(answer, *name);
-    six_number(answer)
+    if let Ok(six) = answer {
+        *name = six_place(six);
+    }
+    number_of(answer)
 }

@@ -5,6 +5,7 @@ use Rattle.std.specs.Prelude.{ℕ, ◌+◌, ◌*◌, Bool, ◌&&◌, List, get_o
 use Rattle.counting.specs.Count.{each}
 use Rattle.choosing.specs.Streets.{raise_on, still_in}
 use Rattle.round.specs.declared.Round.{Round}
+use Rattle.holding.specs.declared.Deal.{Deal}
 use Rattle.holding.specs.Deal.{five}
 use Rattle.names.specs.declared.FiveName.{FiveName}
 use Rattle.names.specs.Five.{name_five}

@@ -6,12 +6,14 @@
 
 #![tactic(auto)]
 
-ghost use Rattle.std.specs.Prelude.{◌≡◌, ◌+◌, ◌*◌};
+ghost use Rattle.std.specs.Prelude.{◌≡◌, ◌+◌, ◌*◌, get_or};
+ghost use Rattle.pays.specs.declared.Pay.{Pay};
+ghost use Rattle.pays.specs.Amounts.{handed_back};
 ghost use Rattle.amounts.specs.Base.{base_wager, hand_of, base_at, base_of, bases_of};
-ghost use Rattle.amounts.specs.Sides.{board_pay_of, pocket_amount, lo_amount, six_amount};
+ghost use Rattle.amounts.specs.Sides.{board_pay_of, pocket_pay_of, lo_pay_of, six_pay_of, pocket_amount, lo_amount, six_amount};
 
-use counting::at7;
-use holding::{community_of, five_of, hole_of, six_of};
+use counting::at;
+use holding::Deal;
 use names::FiveName;
 use pays::{Pay, handed_back, is_above_fifty, win_at};
 use round::Round;
@@ -30,6 +32,19 @@ pub struct Bases {
     pub kept: [u64; 7],
 }
 
+// Its deck, and what says whose its cards are.
+fn deal_of(round: &Round) -> Deal<'_>
+    ensures offer { result.offer ≡ round.now.table.six }
+    ensures antes { result.antes.now ≡ round.now.wagers.antes }
+    ensures cards { result.cards.now ≡ round.now.deck.cards }
+{
+    Deal {
+        offer: round.table.six,
+        antes: &round.wagers.antes,
+        cards: &round.deck.cards,
+    }
+}
+
 fn with_raises(ante: u16, first: u8, second: u8, third: u8) -> u32
     ensures { result ≡ ante + (first + second + third) * ante }
 {
@@ -41,9 +56,8 @@ fn with_raises(ante: u16, first: u8, second: u8, third: u8) -> u32
 pub fn base_wager(round: Round, k: u8) -> u32
     ensures { result ≡ base_wager round k }
 {
-    let antes = round.wagers.antes;
     let play = round.play;
-    let ante = at7(antes, k as usize);
+    let ante = at(&round.wagers.antes, k as usize, 0);
     with_raises(
         ante,
         play.raise_on(0, k),
@@ -56,11 +70,7 @@ pub fn base_wager(round: Round, k: u8) -> u32
 pub fn hand_of(round: Round, k: u8) -> FiveName
     ensures { result ≡ hand_of round k }
 {
-    let antes = round.wagers.antes;
-    let cards = round.deck.cards;
-    let offer = round.table.six;
-    let five = five_of(offer, antes, cards, k);
-    names::five_by_word(five[0], five[1], five[2], five[3], five[4])
+    names::five_by_word(deal_of(&round).five(k))
 }
 
 // The base of a seat that is still in, by what its pay table says of its hand.
@@ -96,12 +106,10 @@ pub fn bases_of(round: Round) -> Bases
 {
     let mut wins = [0u64; 7];
     let mut kept = [0u64; 7];
-    let mut k = 0;
-    while k < 7 {
+    for k in 0..7 {
         let base = base_of(round, k as u8);
         wins[k] = base.win;
         kept[k] = base.kept;
-        k += 1;
     }
     Bases { wins, kept }
 }
@@ -110,62 +118,62 @@ pub fn bases_of(round: Round) -> Bases
 pub fn board_pay_of(round: Round) -> Pay
     ensures { result ≡ board_pay_of round }
 {
-    let antes = round.wagers.antes;
-    let cards = round.deck.cards;
-    let offer = round.table.six;
-    let three = community_of(offer, antes, cards);
-    let name = names::board_by_word(three[0], three[1], three[2]);
+    let name = names::board_by_word(deal_of(&round).community());
     odds::board_pay(round.table.board, name)
 }
 
-// The cards are named only where there is a wager on them.
+// What the Pocket pay table says of the two cards of the seat at place `k`.
+fn pocket_pay_of(round: &Round, k: u8) -> Pay
+    ensures { result ≡ pocket_pay_of round.now k }
+{
+    let name = names::pocket_by_word(deal_of(round).hole(k));
+    odds::pocket_pay(round.table.pocket, name)
+}
+
+// What the Lo Ball pay table says of its five.
+fn lo_pay_of(round: &Round, k: u8) -> Pay
+    ensures { result ≡ lo_pay_of round.now k }
+{
+    let name = names::lo_by_word(deal_of(round).five(k));
+    odds::lo_pay(round.table.lo, name)
+}
+
+// What the All-Six pay table says of its six.
+fn six_pay_of(round: &Round, k: u8) -> Pay
+    ensures { result ≡ six_pay_of round.now k }
+{
+    let name = allsix::six_by_word(deal_of(round).six(k));
+    odds::six_pay(round.table.six, name)
+}
+
+// What the wager of the seat at place `k` hands back. Its pay is only asked for where there is a wager, so no cards are named for nothing.
+fn amount<F: FnOnce() -> Pay>(wagers: &[u16; 7], k: u8, pay: F) -> u64
+    requires { F.IsAlwaysCallable pay }
+    ensures none { get_or wagers.now k 0 ≡ 0 → result ≡ 0 }
+    ensures some { (get_or wagers.now k 0 ≡ 0 → ⊥) → (said : Pay) × F.post pay said × (result ≡ handed_back said (get_or wagers.now k 0)) }
+{
+    let wager = at(wagers, k as usize, 0);
+    if wager == 0 {
+        0
+    } else {
+        handed_back(pay(), wager as u32)
+    }
+}
+
 pub fn pocket_amount(round: Round, k: u8) -> u64
     ensures { result ≡ pocket_amount round k }
 {
-    let antes = round.wagers.antes;
-    let placed = round.wagers.pocket;
-    let cards = round.deck.cards;
-    let wager = at7(placed, k as usize);
-    if wager == 0 {
-        return 0;
-    }
-    let offer = round.table.six;
-    let two = hole_of(offer, antes, cards, k);
-    let name = names::pocket_by_word(two[0], two[1]);
-    let pay = odds::pocket_pay(round.table.pocket, name);
-    handed_back(pay, wager as u32)
+    amount(&round.wagers.pocket, k, || pocket_pay_of(&round, k))
 }
 
 pub fn lo_amount(round: Round, k: u8) -> u64
     ensures { result ≡ lo_amount round k }
 {
-    let antes = round.wagers.antes;
-    let placed = round.wagers.lo;
-    let cards = round.deck.cards;
-    let wager = at7(placed, k as usize);
-    if wager == 0 {
-        return 0;
-    }
-    let offer = round.table.six;
-    let five = five_of(offer, antes, cards, k);
-    let name = names::lo_by_word(five[0], five[1], five[2], five[3], five[4]);
-    let pay = odds::lo_pay(round.table.lo, name);
-    handed_back(pay, wager as u32)
+    amount(&round.wagers.lo, k, || lo_pay_of(&round, k))
 }
 
 pub fn six_amount(round: Round, k: u8) -> u64
     ensures { result ≡ six_amount round k }
 {
-    let antes = round.wagers.antes;
-    let placed = round.wagers.six;
-    let cards = round.deck.cards;
-    let wager = at7(placed, k as usize);
-    if wager == 0 {
-        return 0;
-    }
-    let offer = round.table.six;
-    let six = six_of(offer, antes, cards, k);
-    let name = allsix::six_by_word(six[0], six[1], six[2], six[3], six[4], six[5]);
-    let pay = odds::six_pay(round.table.six, name);
-    handed_back(pay, wager as u32)
+    amount(&round.wagers.six, k, || six_pay_of(&round, k))
 }

@@ -11,6 +11,7 @@ use lib.Dec.{eqb}
 use lib.ListN.{length, get_or, take, drop, replicate, length-append, length-replicate}
 use lib.Seq.{take_at, drop-append-add, get_or-take, get_or-drop}
 use borrow.Author.Tests.{eq-eqb, ne_eqb}
+use Rattle.std.specs.Prelude.{Ok}
 use Rattle.counting.proofs.Gathers.{one_more}
 use Rattle.counting.proofs.Tests.{both}
 use Rattle.records.specs.Bytes.{are_bytes}
@@ -22,7 +23,6 @@ use Rattle.settlement.specs.Settle.{read_refusal, read_list, file_answer, file_l
 use Rattle.settlement.proofs.Answers.{file_number_lem}
 use Rattle.cutting.specs.Rounds.{starts_round, shift_rounds, round_count}
 use Rattle.cutting.proofs.Cuts.{rounds_none}
-use Rattle.shifts.specs.declared.ShiftAnswer.TheVariants.{Settled}
 use Rattle.shifts.specs.Shift.{round_amounts, round_answer, answer_long, in_turn, lists_fit, shift_refusal, shift_answer, shift_list, shift_number}
 use Rattle.shifts.proofs.Ones.{amounts_long, answer-long}
 use Rattle.shifts.proofs.Answers.{both_right, settled_list, settled_whole, settled_fit}
@@ -103,7 +103,7 @@ joined_lists give l m even s =
 -- The same of the calls: where each of two shifts is settled, so are both joined, with their lists joined.
 pub joined_calls : (l m xs ys xs' ys' : List ℕ) → starts_round m ≡ true → shift_number (shift_answer l (lists_fit l xs ys)) ≡ 0 → shift_number (shift_answer m (lists_fit m xs' ys')) ≡ 0 →
     let fit = lists_fit (l ++ m) (xs ++ xs') (ys ++ ys') in
-    (shift_answer (l ++ m) fit ≡ Settled (round_count l + round_count m))
+    (shift_answer (l ++ m) fit ≡ Ok (round_count l + round_count m))
     × (shift_list round_amounts (l ++ m) fit (xs ++ xs') ≡ shift_list round_amounts l (lists_fit l xs ys) xs ++ shift_list round_amounts m (lists_fit m xs' ys') xs')
     × (shift_list round_answer (l ++ m) fit (ys ++ ys') ≡ shift_list round_answer l (lists_fit l xs ys) ys ++ shift_list round_answer m (lists_fit m xs' ys') ys')
 unfolding shift_answer shift_refusal
@@ -119,7 +119,7 @@ joined_calls l m xs ys xs' ys' s p q =
     let right : lists_fit (l ++ m) (xs ++ xs') (ys ++ ys') ≡ true =
     both (eqb (length (xs ++ xs')) (results_long * round_count (l ++ m))) (eqb (length (ys ++ ys')) (answer_long * round_count (l ++ m))) (eq-eqb _ _ first) (eq-eqb _ _ second) in
     let z : shift_number (shift_answer (l ++ m) (lists_fit (l ++ m) (xs ++ xs') (ys ++ ys'))) ≡ 0 = simp (even, right) in (
-      simp (even, right) (ap Settled count),
+      simp (even, right) (ap Ok count),
       settled_list (l ++ m) _ z round_amounts _ ∙ joined_lists round_amounts l m a s ∙ rw (settled_list l _ p round_amounts xs, settled_list m _ q round_amounts xs'),
       settled_list (l ++ m) _ z round_answer _ ∙ joined_lists round_answer l m a s ∙ rw (settled_list l _ p round_answer ys, settled_list m _ q round_answer ys'),
     )
@@ -138,13 +138,13 @@ middle_round give l f m even o s t =
 -- ---- none, and one
 
 -- An empty file has no rounds, and is accepted with two empty lists.
-pub empty_shift : (shift_rounds [] ≡ []) × (shift_answer [] (lists_fit [] [] []) ≡ Settled 0)
+pub empty_shift : (shift_rounds [] ≡ []) × (shift_answer [] (lists_fit [] [] []) ≡ Ok 0)
 unfolding shift_answer shift_refusal
 empty_shift = let none = rounds_none [] (omega arith) in (none, rw none)
 
 -- A shift of one round is that file's own call.
 pub one_call : (l amounts answers : List ℕ) → OneRound l → length amounts ≡ results_long → length answers ≡ 2
-    → (shift_answer l (lists_fit l amounts answers) ≡ Settled 1)
+    → (shift_answer l (lists_fit l amounts answers) ≡ Ok 1)
     × (shift_list round_amounts l (lists_fit l amounts answers) amounts ≡ round_amounts l)
     × (shift_list round_answer l (lists_fit l amounts answers) answers ≡ round_answer l)
 unfolding shift_answer shift_refusal shift_list joined

@@ -28,14 +28,7 @@ pub fn suit_of(card: u8) -> u8
 pub fn are_cards_from(cards: &[u8], from: usize) -> bool
     ensures { result ≡ every_of is_card (drop from cards.now) }
 {
-    let mut i = from;
-    while i < cards.len() {
-        if 51 < cards[i] {
-            return false;
-        }
-        i += 1;
-    }
-    true
+    cards.iter().skip(from).all(|card| *card <= 51)
 }
 
 // A card from place `from` on stands at an earlier place too. The search stops at once, from inside, at the first one found.
@@ -43,17 +36,13 @@ pub fn has_repeat_from(cards: &[u8], from: usize) -> bool
     ensures { result ≡ repeats_from from cards.now }
 {
     let mut found = false;
-    let mut i = from;
-    'places: while i < cards.len() {
-        let mut j = 0;
-        while j < i {
+    'places: for i in from..cards.len() {
+        for j in 0..i {
             if cards[i] == cards[j] {
                 found = true;
                 break 'places;
             }
-            j += 1;
         }
-        i += 1;
     }
     found
 }

@@ -1,14 +1,11 @@
 -- The cases P1 to P14 of document 01.
 -- Assumes nothing.
-use Rattle.std.specs.Prelude.{ℕ, ◌≡◌, List, [], ◌∷◌}
+use Rattle.std.specs.Prelude.{ℕ, ◌≡◌, List, [], ◌∷◌, Result, Ok, Err}
+use Rattle.causes.specs.declared.Refusal.{Refusal}
 use Rattle.names.specs.declared.FiveName.{FiveName}
 use Rattle.names.specs.declared.BoardName.{BoardName}
 use Rattle.names.specs.declared.PocketName.{PocketName}
 use Rattle.names.specs.declared.LoName.{LoName}
-use Rattle.names.specs.declared.FiveAnswer.{FiveAnswer}
-use Rattle.names.specs.declared.BoardAnswer.{BoardAnswer}
-use Rattle.names.specs.declared.PocketAnswer.{PocketAnswer}
-use Rattle.names.specs.declared.LoAnswer.{LoAnswer}
 use Rattle.names.specs.Five.{answer_five}
 use Rattle.names.specs.Board.{answer_board}
 use Rattle.names.specs.Pocket.{answer_pocket}
@@ -18,18 +15,10 @@ use Rattle.pays.specs.declared.Pay.TheVariants.{To, Push, Loss, NoTable}
 use Rattle.odds.specs.Pays.{base_pay, pocket_pay, lo_pay}
 use Rattle.pool.specs.Pool.{share_list}
 
--- what a pay table says of an answer; of a refusal it says nothing
-abbrev pub base_pays : ℕ → FiveAnswer → Pay
-base_pays table (FiveAnswer.Name name) = base_pay table name
-base_pays table (FiveAnswer.Refused number) = NoTable
-
-abbrev pub pocket_pays : ℕ → PocketAnswer → Pay
-pocket_pays table (PocketAnswer.Name name) = pocket_pay table name
-pocket_pays table (PocketAnswer.Refused number) = NoTable
-
-abbrev pub lo_pays : ℕ → LoAnswer → Pay
-lo_pays table (LoAnswer.Name name) = lo_pay table name
-lo_pays table (LoAnswer.Refused number) = NoTable
+-- what a pay table says of an answer, where `pay` is what the tables say of a name; of a refusal it says nothing
+abbrev pub pays : {Name : Type 0} → (ℕ → Name → Pay) → ℕ → Result Name Refusal → Pay
+pays pay table (Ok name) = pay table name
+pays pay table (Err refusal) = NoTable
 
 -- What a case gives, and what must come of it: cards and their name; a pay table's number and cards, and what it says of them;
 -- wins and a maximum, and each win's share.
@@ -44,13 +33,13 @@ pub data Case : Type 0 where
   shares : List ℕ → ℕ → List ℕ → Case
 
 abbrev pub Right : Case → Type 0
-Right (five cards name) = answer_five cards ≡ FiveAnswer.Name name
-Right (board cards name) = answer_board cards ≡ BoardAnswer.Name name
-Right (pocket cards name) = answer_pocket cards ≡ PocketAnswer.Name name
-Right (lo cards name) = answer_lo cards ≡ LoAnswer.Name name
-Right (base table cards pay) = base_pays table (answer_five cards) ≡ pay
-Right (pocket_bonus table cards pay) = pocket_pays table (answer_pocket cards) ≡ pay
-Right (lo_ball table cards pay) = lo_pays table (answer_lo cards) ≡ pay
+Right (five cards name) = answer_five cards ≡ Ok name
+Right (board cards name) = answer_board cards ≡ Ok name
+Right (pocket cards name) = answer_pocket cards ≡ Ok name
+Right (lo cards name) = answer_lo cards ≡ Ok name
+Right (base table cards pay) = pays base_pay table (answer_five cards) ≡ pay
+Right (pocket_bonus table cards pay) = pays pocket_pay table (answer_pocket cards) ≡ pay
+Right (lo_ball table cards pay) = pays lo_pay table (answer_lo cards) ≡ pay
 Right (shares wins maximum paid) = share_list wins maximum wins ≡ paid
 
 -- every case of a list is right

@@ -13,58 +13,42 @@
 
 ghost use Rattle.std.specs.Prelude.{◌<◌, ◌≤◌};
 
-use names::{BoardAnswer, FiveAnswer, LoAnswer, LoName, PocketAnswer};
-use pipes::{Outcome, called, end, print};
-use text::put_line;
+use names::LoName;
+use pipes::{Fault, Outcome, called, end, print};
+use text::Page;
 
 const NAME: [u8; 6] = *b"census";
 
-// The entries.
-const FIVE: u8 = 0;
-
-const LO: u8 = 1;
-
-const BOARD: u8 = 2;
-
-const POCKET: u8 = 3;
-
-const SIX: u8 = 4;
+// The entries that are asked.
+#[derive(Clone, Copy)]
+enum Entry {
+    Five,
+    Lo,
+    Board,
+    Pocket,
+    Six,
+}
 
 // The row of an entry's answer: the name's place in its list, and the row after the last name for a refusal.
 fn five_row(cards: &[u8]) -> usize {
-    match names::name_five(cards) {
-        FiveAnswer::Name(name) => names::five_place(name),
-        FiveAnswer::Refused(_) => 11,
-    }
+    names::name_five(cards).map_or(11, |name| names::five_place(name))
 }
 
 // A Lo Ball name's row is its rank, and 13 for nothing.
-fn lo_place(name: LoName) -> usize {
-    match name {
-        LoName::High(rank) => rank as usize,
-        LoName::Nothing => 13,
-    }
-}
-
 fn lo_row(cards: &[u8]) -> usize {
     match names::name_lo(cards) {
-        LoAnswer::Name(name) => lo_place(name),
-        LoAnswer::Refused(_) => 14,
+        Ok(LoName::High(rank)) => rank as usize,
+        Ok(LoName::Nothing) => 13,
+        Err(_) => 14,
     }
 }
 
 fn board_row(cards: &[u8]) -> usize {
-    match names::name_board(cards) {
-        BoardAnswer::Name(name) => odds::board_place(name),
-        BoardAnswer::Refused(_) => 7,
-    }
+    names::name_board(cards).map_or(7, |name| odds::board_place(name))
 }
 
 fn pocket_row(cards: &[u8]) -> usize {
-    match names::name_pocket(cards) {
-        PocketAnswer::Name(name) => odds::pocket_place(name),
-        PocketAnswer::Refused(_) => 5,
-    }
+    names::name_pocket(cards).map_or(5, |name| odds::pocket_place(name))
 }
 
 // A refusal leaves the row as it is.
@@ -74,23 +58,21 @@ fn six_row(cards: &[u8]) -> usize {
     row
 }
 
-fn row_of(entry: u8, cards: &[u8]) -> usize {
+fn row_of(entry: Entry, cards: &[u8]) -> usize {
     match entry {
-        0 => five_row(cards),
-        1 => lo_row(cards),
-        2 => board_row(cards),
-        3 => pocket_row(cards),
-        _ => six_row(cards),
+        Entry::Five => five_row(cards),
+        Entry::Lo => lo_row(cards),
+        Entry::Board => board_row(cards),
+        Entry::Pocket => pocket_row(cards),
+        Entry::Six => six_row(cards),
     }
 }
 
 // One more in a row; a row past the end is not counted.
-fn counted(counts: [u64; 16], row: usize) -> [u64; 16] {
-    let mut next = counts;
+fn count(counts: &mut [u64; 16], row: usize) {
     if row < 16 {
-        next[row] = std::num::wrapping_add_u64(next[row], 1);
+        counts[row] = counts[row].wrapping_add(1);
     }
-    next
 }
 
 // The hand after this one. Its cards rise, up to the place `last`: the lowest card that can go up by one and stay below
@@ -99,69 +81,59 @@ fn next_hand(hand: [u8; 6], last: usize) -> [u8; 6]
     requires { last < 6 }
 {
     let mut next = hand;
-    let mut i = 0;
-    while i < last {
-        let up = std::num::wrapping_add_u8(next[i], 1);
+    for i in 0..last {
+        let up = next[i].wrapping_add(1);
         if up < next[i + 1] {
             next[i] = up;
             return next;
         }
         next[i] = i as u8;
-        i += 1;
     }
-    next[last] = std::num::wrapping_add_u8(next[last], 1);
+    next[last] = next[last].wrapping_add(1);
     next
 }
 
 // How many of the first so many hands of this size have each row.
-fn tally(entry: u8, size: usize, hands: u64) -> [u64; 16]
+fn tally(entry: Entry, size: usize, hands: u64) -> [u64; 16]
     requires { (0 < size) × (size ≤ 6) }
 {
     let mut hand = [0u8, 1, 2, 3, 4, 5];
     let mut counts = [0u64; 16];
-    let mut left = hands;
-    while 0 < left {
-        let more = counted(counts, row_of(entry, &hand[0..size]));
-        counts = more;
+    for _ in 0..hands {
+        count(&mut counts, row_of(entry, &hand[..size]));
         let next = next_hand(hand, size - 1);
         hand = next;
-        left -= 1;
     }
     counts
 }
 
 // The counts of the first rows, on one line.
-fn write_counts(rt: &(impl Print + Eprint), words: &[u8], counts: [u64; 16], rows: usize) -> bool
+fn write_counts(
+    rt: &(impl Print + Eprint),
+    words: &[u8],
+    counts: [u64; 16],
+    rows: usize,
+) -> Result<(), Fault>
     requires { rows ≤ 16 }
 {
-    let mut line = [0u8; 512];
-    let last = put_line(&mut line, 0, words, &counts[0..rows]);
-    print(rt, &NAME, &line, last)
+    let mut room = [0u8; 512];
+    let mut page = Page::new(&mut room);
+    page.put_line(words, &counts[..rows]);
+    print(rt, &NAME, page.text())
 }
 
 // A line for each entry: how many hands have each name, from the highest, and how many are refused.
-fn ask_all(rt: &(impl Print + Eprint)) -> Outcome {
-    if !write_counts(rt, b"five cards:", tally(FIVE, 5, 2598960), 12) {
-        return Outcome::Fault;
-    }
-    if !write_counts(rt, b"Lo Ball:", tally(LO, 5, 2598960), 15) {
-        return Outcome::Fault;
-    }
-    if !write_counts(rt, b"board:", tally(BOARD, 3, 22100), 8) {
-        return Outcome::Fault;
-    }
-    if !write_counts(rt, b"pocket:", tally(POCKET, 2, 1326), 6) {
-        return Outcome::Fault;
-    }
-    if !write_counts(rt, b"All-Six:", tally(SIX, 6, 20358520), 14) {
-        return Outcome::Fault;
-    }
-    Outcome::Done
+fn ask_all(rt: &(impl Print + Eprint)) -> Result<Outcome, Fault> {
+    write_counts(rt, b"five cards:", tally(Entry::Five, 5, 2598960), 12)?;
+    write_counts(rt, b"Lo Ball:", tally(Entry::Lo, 5, 2598960), 15)?;
+    write_counts(rt, b"board:", tally(Entry::Board, 3, 22100), 8)?;
+    write_counts(rt, b"pocket:", tally(Entry::Pocket, 2, 1326), 6)?;
+    write_counts(rt, b"All-Six:", tally(Entry::Six, 6, 20358520), 14)?;
+    Ok(Outcome::Done)
 }
 
 fn main(rt: HostRuntime) {
-    let call = called(&rt, &NAME, false);
-    if call.sound {
+    if let Some(call) = called(&rt, &NAME, false) {
         end(&rt, &NAME, call, ask_all(&rt));
     }
 }

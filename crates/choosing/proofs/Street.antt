@@ -9,7 +9,8 @@ use lib.Dec.{eqb}
 use lib.ListN.{get_or, set}
 use lib.Seq.{get_or-set_other}
 use borrow.Author.Tests.{eqb-true, eqb-false}
-use Rattle.std.specs.Prelude.{if◌then◌else◌}
+use Rattle.std.specs.Prelude.{Some, None, cond, if◌then◌else◌}
+use Rattle.std.specs.Option.{unwrap_or}
 use Rattle.counting.proofs.Tests.{clash, and_true, is_false, positive, not_zero}
 use Rattle.counting.proofs.Ranges.{none_at, none_of, some_here, some_where}
 use Rattle.counting.proofs.Firsts.{zeros_at}
@@ -24,6 +25,13 @@ most true u v = omega arith
 most false true v = omega arith
 most false false true = omega arith
 most false false false = omega arith
+
+-- what a search over the three finds, 3 where there is none
+pub first_found : (t u v : Bool) → ◌≡◌ {A = ℕ} (unwrap_or (cond t (Some 0) (cond u (Some 1) (cond v (Some 2) None))) 3) (if t then 0 else if u then 1 else if v then 2 else 3)
+first_found true u v = refl
+first_found false true v = refl
+first_found false false true = refl
+first_found false false false = refl
 
 past0 : (t u v : Bool) → 0 < (if t then 0 else if u then 1 else if v then 2 else 3) → t ≡ false
 past0 true u v h = absurd (omega arith)

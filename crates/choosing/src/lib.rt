@@ -1,6 +1,6 @@
 // The choices: who is still in, which street is open, what a choice does.
 //
-// A choice record is answered here by the number of its refusal and by what it makes of the play; whether such a record may
+// A choice record is answered here by its refusal and by what it makes of the play; whether such a record may
 // come is the round's to say. Seats are taken by their antes: a seat without one doesn't play. Each function answers for any antes, any play and
 // any bytes. `fits` is true of the plays that accepted records leave, and proofs/ shows it from both sides. The order of choices within a
 // street isn't held: a raise stands at street × 7 + place, a fold's street, counted from 1, at the seat's place.
@@ -8,11 +8,13 @@
 #![tactic(auto)]
 
 ghost use Rattle.std.specs.Prelude.{◌≡◌, ◌<◌};
+ghost use Rattle.causes.specs.Refusal.{number_of};
 ghost use Rattle.choosing.specs.Streets.{raise_on, fold_of, still_in, has_to_choose, is_open, streets_over};
 ghost use Rattle.choosing.specs.Choice.{standing_refusal, choice_refusal, chosen, with_choice};
 ghost use Rattle.choosing.specs.Slots.{fold_fits, raise_fits, slot_at, street_fits, play_fits};
 
-use counting::{at7, at21, byte_at7};
+use causes::Refusal;
+use counting::{at, put};
 use records::{byte_at, is_between, is_zero_from, place_of};
 
 #[derive(Clone, Copy)]
@@ -44,22 +46,20 @@ impl Play {
     pub fn raise_on(self, s: u8, k: u8) -> u8
         ensures { result ≡ raise_on self s k }
     {
-        let raises = self.raises;
-        at21(raises, s as usize * 7 + k as usize)
+        at(&self.raises, s as usize * 7 + k as usize, 0)
     }
 
     fn fold_of(self, k: u8) -> u8
         ensures { result ≡ fold_of self k }
     {
-        let folds = self.folds;
-        byte_at7(folds, k as usize)
+        at(&self.folds, k as usize, 0)
     }
 
     // The seat at place `k` plays and hasn't folded.
     pub fn is_in(self, antes: [u16; 7], k: u8) -> bool
         ensures { result ≡ still_in antes self k }
     {
-        (at7(antes, k as usize) != 0) & (self.fold_of(k) == 0)
+        (at(&antes, k as usize, 0) != 0) & (self.fold_of(k) == 0)
     }
 
     // The seat at place `k` is still in and hasn't chosen on street `s`.
@@ -73,87 +73,66 @@ impl Play {
     fn is_open(self, antes: [u16; 7], s: u8) -> bool
         ensures { result ≡ is_open antes self s }
     {
-        let mut k = 0;
-        while k < 7 {
-            if self.has_to_choose(antes, s, k) {
-                return true;
-            }
-            k += 1;
-        }
-        false
+        (0..7).any(|k| self.has_to_choose(antes, s, k))
     }
 
     // How many streets are over: the open one's place, and 3 where the round is finished.
     pub fn streets_over(self, antes: [u16; 7]) -> u8
         ensures { result ≡ streets_over antes self }
     {
-        if self.is_open(antes, 0) {
-            return 0;
-        }
-        if self.is_open(antes, 1) {
-            return 1;
-        }
-        if self.is_open(antes, 2) {
-            return 2;
-        }
-        3
+        (0..3).find(|s| self.is_open(antes, *s)).unwrap_or(3)
     }
 
-    // The refusal of a choice by the seat at place `k`, 0 for none.
-    fn standing_refusal(self, antes: [u16; 7], k: u8) -> u8
-        ensures { result ≡ standing_refusal antes self k }
+    // The refusal of a choice by the seat at place `k`.
+    fn standing_refusal(self, antes: [u16; 7], k: u8) -> Result<(), Refusal>
+        ensures { number_of result ≡ standing_refusal antes self k }
     {
-        if at7(antes, k as usize) == 0 {
-            return 13;
+        if at(&antes, k as usize, 0) == 0 {
+            return Err(Refusal::SeatNotIn);
         }
         if self.fold_of(k) != 0 {
-            return 14;
+            return Err(Refusal::SeatFolded);
         }
         if self.raise_on(self.streets_over(antes), k) != 0 {
-            return 15;
+            return Err(Refusal::AlreadyChosen);
         }
-        0
+        Ok(())
     }
 
-    // The refusal of what a choice record says, 0 for none.
-    pub fn choice_refusal(self, antes: [u16; 7], bytes: &[u8]) -> u8
-        ensures { result ≡ choice_refusal antes self bytes.now }
+    // The refusal of what a choice record says.
+    #[tactic(auto, unfolding(crate::specs::Choice::choice_refusal))]
+    pub fn choice_refusal(self, antes: [u16; 7], bytes: &[u8]) -> Result<(), Refusal>
+        ensures { number_of result ≡ choice_refusal antes self bytes.now }
     {
         if !is_zero_from(bytes, 3) {
-            return 4;
+            return Err(Refusal::ByteNotZero);
         }
         let seat = byte_at(bytes, 1);
         if !is_between(1, 7, seat) {
-            return 7;
+            return Err(Refusal::SeatNumber);
         }
         if 3 < byte_at(bytes, 2) {
-            return 12;
+            return Err(Refusal::Choice);
         }
         self.standing_refusal(antes, place_of(seat))
     }
 
     // The seat at place `k` chooses on street `s`. A place past the end of its array changes nothing.
+    #[tactic(auto, unfolding(crate::specs::Choice::chosen))]
     fn chosen_on(mut self, s: u8, k: u8, choice: u8) -> Play
         requires { s < 4 }
         ensures { result ≡ chosen self s k choice }
     {
-        let at = k as usize;
         if choice == 0 {
-            if 7 <= at {
-                return self;
-            }
-            self.folds[at] = s + 1;
-            return self;
+            self.folds = put(self.folds, k as usize, s + 1);
+        } else {
+            self.raises = put(self.raises, s as usize * 7 + k as usize, choice);
         }
-        let slot = s as usize * 7 + at;
-        if 21 <= slot {
-            return self;
-        }
-        self.raises[slot] = choice;
         self
     }
 
     // The play with the choice of a record, made on the street that is open.
+    #[tactic(auto, using(crate::proofs::Street::streets_le))]
     pub fn with_choice(self, antes: [u16; 7], bytes: &[u8]) -> Play
         ensures { result ≡ with_choice antes self bytes.now }
     {
@@ -162,11 +141,12 @@ impl Play {
         self.chosen_on(s, k, byte_at(bytes, 2))
     }
 
+    #[tactic(auto, unfolding(crate::specs::Slots::slot_fits))]
     fn slot_fits(self, antes: [u16; 7], opened: u8, s: u8, k: u8) -> bool
         requires { s < 3 }
         ensures { result ≡ slot_at antes self opened s k }
     {
-        let ante = at7(antes, k as usize);
+        let ante = at(&antes, k as usize, 0);
         let fold = self.fold_of(k);
         fold_fits(opened, ante, fold) & raise_fits(opened, s, ante, fold, self.raise_on(s, k))
     }
@@ -176,27 +156,13 @@ impl Play {
         requires { s < 3 }
         ensures { result ≡ street_fits antes self opened s }
     {
-        let mut k = 0;
-        while k < 7 {
-            if !self.slot_fits(antes, opened, s, k) {
-                return false;
-            }
-            k += 1;
-        }
-        true
+        (0..7).all(|k| self.slot_fits(antes, opened, s, k))
     }
 
     // What each seat has on each street fits, where so many streets have opened.
     pub fn fits(self, antes: [u16; 7], opened: u8) -> bool
         ensures { result ≡ play_fits antes self opened }
     {
-        let mut s = 0;
-        while s < 3 {
-            if !self.street_fits(antes, opened, s) {
-                return false;
-            }
-            s += 1;
-        }
-        true
+        (0..3).all(|s| self.street_fits(antes, opened, s))
     }
 }

@@ -1,35 +1,30 @@
--- Where a line ends, character by character; and that it ends within the text.
+-- How many characters come before a newline, in the library's words; and that a line ends within the text.
 -- Assumes nothing.
-use Prim.Native.Nat.{ℕ, suc, ◌+◌, ◌≤◌, ◌<◌}
-use mathlib.Core.Path.{◌≡◌}
+use Prim.Native.Nat.{ℕ, suc, ◌+◌, ◌≤◌}
+use mathlib.Core.Path.{◌≡◌, refl, ap, ◌∙◌}
 use mathlib.Core.Bool.{Bool, true, false}
 use mathlib.Core.List.{List, [], ◌∷◌}
-use native.Mathlib.Numerals.{add-one}
 use native.Mathlib.Omega.{arith}
 use lib.Dec.{eqb}
-use lib.ListN.{length, get_or, drop, length-drop, drop_of_length-le}
-use lib.Seq.{drop-cons}
-use borrow.Author.Tests.{eq-eqb, ne_eqb}
-use Rattle.std.specs.Prelude.{if◌then◌else◌}
+use lib.ListN.{length, take, drop, length-drop}
+use Rattle.std.specs.Prelude.{if◌then◌else◌, cond, not}
+use Rattle.std.specs.List.{prefix_len}
+use Rattle.std.proofs.lemmas.List.Folds.{length-prefix_len}
 use Rattle.columns.specs.Columns.{before_newline, line_end}
 
-newline_step : (t : List ℕ) (i : ℕ) → i < length t
-    → before_newline (drop i t) ≡ (if eqb (get_or t i 0) 10 then 0 else 1 + before_newline (drop (i + 1) t))
+newline_prefix : (t : List ℕ) → prefix_len (λ c. not (eqb c 10)) t ≡ before_newline t
 unfolding before_newline
-newline_step t i h = rw (add-one, drop-cons t i 0)
+newline_prefix [] = refl
+newline_prefix (c ∷ cs) = go (eqb c 10) (newline_prefix cs)
+  where
+    go : (t : Bool) → prefix_len (λ c. not (eqb c 10)) cs ≡ before_newline cs
+        → cond (not t) (1 + prefix_len (λ c. not (eqb c 10)) cs) 0 ≡ (if t then 0 else 1 + before_newline cs)
+    go true e = refl
+    go false e = ap (λ (n : ℕ). 1 + n) e
 
-newline_end : (t : List ℕ) (i : ℕ) → length t ≤ i → before_newline (drop i t) ≡ 0
-unfolding before_newline
-newline_end t i h = rw drop_of_length-le
-
-pub line_here : (t : List ℕ) (i : ℕ) → i < length t → get_or t i 0 ≡ 10 → i ≡ line_end t i
-line_here t i h e = omega (arith, simp (eq-eqb (get_or t i 0) 10 e) at (newline_step t i h))
-
-pub line_more : (t : List ℕ) (i : ℕ) → i < length t → (get_or t i 0 ≡ 10 → ⊥) → line_end t (i + 1) ≡ line_end t i
-line_more t i h e = omega (arith, simp (ne_eqb (get_or t i 0) 10 e) at (newline_step t i h))
-
-pub line_over : (t : List ℕ) (i : ℕ) → length t ≤ i → i ≡ line_end t i
-line_over t i h = omega (arith, newline_end t i h)
+-- the characters that are taken while none is a newline
+pub newline_at : (t : List ℕ) → length (take (prefix_len (λ c. not (eqb c 10)) t) t) ≡ before_newline t
+newline_at t = length-prefix_len (λ c. not (eqb c 10)) t ∙ newline_prefix t
 
 within : (t : Bool) (n m : ℕ) → n ≤ m → (if t then 0 else 1 + n) ≤ suc m
 within true n m h = omega arith

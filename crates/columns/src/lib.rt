@@ -8,14 +8,17 @@
 ghost use Rattle.std.specs.Prelude.{ℕ, ◌<◌, ◌≡◌, get_or};
 ghost use Rattle.columns.specs.Columns.{digit_at, number_at, line_end};
 
-use counting::put21;
 use records::{byte_at, is_between};
 
 pub fn digit_at(line: &[u8], place: usize) -> u8
     ensures { result ≡ digit_at line.now place }
 {
     let c = byte_at(line, place);
-    if is_between(48, 57, c) { c - 48 } else { 0 }
+    if is_between(b'0', b'9', c) {
+        c - b'0'
+    } else {
+        0
+    }
 }
 
 pub fn number_at(line: &[u8], k: u8) -> u8
@@ -34,11 +37,8 @@ pub fn numbers_of(line: &[u8]) -> [u8; 21]
     ensures { (k : ℕ) → k < 21 → get_or result k 0 ≡ number_at line.now k }
 {
     let mut numbers = [0u8; 21];
-    let mut k = 0;
-    while k < 21 {
-        let more = put21(numbers, k as usize, number_at(line, k));
-        numbers = more;
-        k += 1;
+    for k in 0..21 {
+        numbers[k as usize] = number_at(line, k);
     }
     numbers
 }
@@ -47,12 +47,6 @@ pub fn numbers_of(line: &[u8]) -> [u8; 21]
 pub fn line_end(text: &[u8], from: usize) -> usize
     ensures { result ≡ line_end text.now from }
 {
-    let mut i = from;
-    while i < text.len() {
-        if text[i] == 10 {
-            return i;
-        }
-        i += 1;
-    }
-    i
+    let rest = text.iter().skip(from);
+    from + rest.take_while(|character| **character != b'\n').count()
 }

@@ -12,3 +12,4 @@ pub mod Fills
 pub mod Stores
 pub mod Tallies
 pub mod Ranks
+pub mod Library

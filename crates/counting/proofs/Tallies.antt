@@ -39,7 +39,7 @@ module _ (f : ℕ → Bool) where
       (λ q. omega (arith, ap one q)) (λ l q. omega (arith, tally_lt n k l q)) e
 
 -- the first apart from the others
-tally_front : (n : ℕ) (f : ℕ → Bool) → tally (suc n) f ≡ one (f 0) + tally n (λ k. f (suc k))
+pub tally_front : (n : ℕ) (f : ℕ → Bool) → tally (suc n) f ≡ one (f 0) + tally n (λ k. f (suc k))
 unfolding tally
 tally_front zero f = refl
 tally_front (suc n) f = omega (arith, tally_front n f)

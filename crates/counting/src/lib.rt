@@ -2,8 +2,8 @@
 //
 // specs/ has the definitions: choosing by a test, tests and sums over the numbers below n and over a list, and lists
 // that hold the same numbers in another order. proofs/ has their laws, once; the crates above cite the laws and not
-// the definitions' texts. The functions here read and write an array at any place: past its end a read gives 0 and a
-// write changes nothing, so that no caller owes a bound. above_of counts what is larger.
+// the definitions' texts. `at` and `put` read and write at any place: past the end a read gives what the
+// caller names and a write changes nothing, so that no caller owes a bound. above_of counts what is larger.
 
 #![tactic(auto)]
 
@@ -23,78 +23,26 @@ pub fn above_of(numbers: &[u64], own: u64) -> u64
     ensures { result ≡ above numbers.now own }
 {
     let mut count: u64 = 0;
-    let mut j = 0;
-    while j < numbers.len() {
-        count += one_where(own < numbers[j]);
-        j += 1;
+    for number in numbers {
+        count += one_where(own < *number);
     }
     count
 }
 
-pub fn at7(a: [u16; 7], i: usize) -> u16
-    ensures { result ≡ get_or a i 0 }
+// What stands at a place of a list, and `otherwise` where the list has no such place.
+pub fn at<T: Copy>(list: &[T], i: usize, otherwise: T) -> T
+    ensures { result ≡ get_or list.now i otherwise }
 {
-    if i < 7 { a[i] } else { 0 }
+    list.get(i).copied().unwrap_or(otherwise)
 }
 
-pub fn put7(a: [u16; 7], i: usize, v: u16) -> [u16; 7]
-    ensures { result ≡ set a i v }
+// The array with `x` at a place, and the same array where it has no such place.
+pub fn put<T: Copy, const N: usize>(list: [T; N], i: usize, x: T) -> [T; N]
+    ensures { result ≡ set list i x }
 {
-    if i < 7 {
-        let mut x = a;
-        x[i] = v;
-        return x;
+    let mut new = list;
+    if i < N {
+        new[i] = x;
     }
-    a
-}
-
-pub fn at21(a: [u8; 21], i: usize) -> u8
-    ensures { result ≡ get_or a i 0 }
-{
-    if i < 21 { a[i] } else { 0 }
-}
-
-pub fn put21(a: [u8; 21], i: usize, v: u8) -> [u8; 21]
-    ensures { result ≡ set a i v }
-{
-    if i < 21 {
-        let mut x = a;
-        x[i] = v;
-        return x;
-    }
-    a
-}
-
-pub fn at52(a: [u8; 52], i: usize) -> u8
-    ensures { result ≡ get_or a i 0 }
-{
-    if i < 52 { a[i] } else { 0 }
-}
-
-pub fn put52(a: [u8; 52], i: usize, v: u8) -> [u8; 52]
-    ensures { result ≡ set a i v }
-{
-    if i < 52 {
-        let mut x = a;
-        x[i] = v;
-        return x;
-    }
-    a
-}
-
-pub fn byte_at7(a: [u8; 7], i: usize) -> u8
-    ensures { result ≡ get_or a i 0 }
-{
-    if i < 7 { a[i] } else { 0 }
-}
-
-pub fn put_byte7(a: [u8; 7], i: usize, v: u8) -> [u8; 7]
-    ensures { result ≡ set a i v }
-{
-    if i < 7 {
-        let mut x = a;
-        x[i] = v;
-        return x;
-    }
-    a
+    new
 }

@@ -6,7 +6,16 @@
 #![tactic(auto)]
 
 ghost use Rattle.std.specs.Prelude.{◌≡◌, length};
-ghost use Rattle.cutting.specs.Rounds.{first_round, round_count};
+ghost use Rattle.cutting.specs.Rounds.{starts_round, first_round, round_count};
+
+use records::byte_at;
+
+// A record of kind 1.
+fn starts_round(bytes: &[u8]) -> bool
+    ensures { result ≡ starts_round bytes.now }
+{
+    byte_at(bytes, 0) == 1
+}
 
 // How many bytes the first round has: 0 where there is no round.
 pub fn first_round(file: &[u8]) -> usize
@@ -15,26 +24,18 @@ pub fn first_round(file: &[u8]) -> usize
     if file.len() < 16 {
         return 0;
     }
-    let mut at = 16;
-    while 16 <= file.len() - at {
-        if file[at] == 1 {
-            return at;
-        }
-        at += 16;
-    }
-    at
+    let later = file.chunks_exact(16).skip(1);
+    let more = later.take_while(|record| !starts_round(record)).count();
+    16 + 16 * more
 }
 
 // How many rounds there are.
 pub fn count_rounds(file: &[u8]) -> usize
     ensures { result ≡ round_count file.now }
 {
-    let mut rest = file;
-    let mut count = 0;
-    while 16 <= rest.len() {
-        let end = first_round(rest);
-        rest = &rest[end..];
-        count += 1;
+    let mut records = file.chunks_exact(16);
+    match records.next() {
+        None => 0,
+        Some(_) => 1 + records.filter(|record| starts_round(record)).count(),
     }
-    count
 }

@@ -1,19 +1,19 @@
 // The deck, read in four parts of thirteen cards.
 //
-// A deck record is answered here by the number of its refusal and by the deck with its cards; whether such a record may come is
+// A deck record is answered here by its refusal and by the deck with its cards; whether such a record may come is
 // the round's to say. Each function answers for any deck and any bytes. `fits` is true of the decks that accepted records
 // leave, and proofs/ shows it from both sides. The search for a repeat is the labelled one of `cards`. A record has its thirteen
 // cards looked at, each against every place before it: over four parts at most 52 × 51 ÷ 2 comparisons, as many as `fits` makes.
 
 #![tactic(auto)]
 
-ghost use Rattle.std.specs.Prelude.{◌≡◌, ◌*◌, ◌≤◌, take};
-ghost use Rattle.std.proofs.lemmas.List.Edits.{sets};
+ghost use Rattle.std.specs.Prelude.{◌≡◌, ◌*◌, ◌≤◌, length};
+ghost use Rattle.causes.specs.Refusal.{number_of};
 ghost use Rattle.cards.specs.Deck.{faulty_from};
-ghost use Rattle.records.specs.Bytes.{zero_from};
 ghost use Rattle.dealing.specs.Part.{thirteen_of, dealt, with_part, part_refusal, deck_fits};
 
 use cards::is_faulty_from;
+use causes::Refusal;
 use records::{byte_at, is_zero_from};
 
 #[derive(Clone, Copy)]
@@ -22,87 +22,67 @@ pub struct Deck {
     pub parts: u8,
 }
 
-// The cards with the record's thirteen from place `from` on.
-fn put_cards(cards: [u8; 52], from: usize, bytes: &[u8]) -> [u8; 52]
-    requires { from ≤ 39 }
-    ensures { result ≡ sets cards from (thirteen_of bytes.now) }
+// The record's cards: thirteen, or as many of them as it has.
+fn thirteen_of(bytes: &[u8]) -> &[u8]
+    ensures cards { result.now ≡ thirteen_of bytes.now }
+    ensures most { length result.now ≤ 13 }
 {
-    let mut deck = cards;
-    let mut at = from;
-    let mut k = 2;
-    while k < 15 {
-        if bytes.len() <= k {
-            return deck;
-        }
-        deck[at] = bytes[k];
-        at += 1;
-        k += 1;
-    }
-    deck
-}
-
-// A card at a place from `from` to below `n` is above 51, or stands at an earlier place too.
-fn has_fault_between(cards: [u8; 52], from: usize, n: usize) -> bool
-    ensures { result ≡ faulty_from from (take n cards) }
-{
-    if n < 52 {
-        return is_faulty_from(&cards[0..n], from);
-    }
-    is_faulty_from(&cards[0..52], from)
-}
-
-fn is_blank_from(cards: [u8; 52], n: usize) -> bool
-    ensures { result ≡ zero_from n cards }
-{
-    is_zero_from(&cards[0..52], n)
+    let said = &bytes[..bytes.len().min(15)];
+    &said[said.len().min(2)..]
 }
 
 impl Deck {
+    // How many cards the parts read so far have.
+    fn cards_read(self) -> usize
+        ensures { result ≡ 13 * self.parts }
+    {
+        13 * (self.parts as usize)
+    }
+
     // A card of the parts read so far, from place `from` on, is above 51, or stands at an earlier place too.
     fn has_fault_from(self, from: usize) -> bool
         ensures { result ≡ faulty_from from (dealt self) }
     {
-        let cards = self.cards;
-        has_fault_between(cards, from, 13 * (self.parts as usize))
+        is_faulty_from(&self.cards[..self.cards_read().min(52)], from)
     }
 
     // The deck with one more part, while there is room.
-    pub fn with_part(self, bytes: &[u8]) -> Deck
+    #[tactic(auto, unfolding(crate::specs::Part::with_part))]
+    pub fn with_part(mut self, bytes: &[u8]) -> Deck
         ensures { result ≡ with_part self bytes.now }
     {
-        let cards = self.cards;
         if self.parts < 4 {
-            return Deck {
-                cards: put_cards(cards, 13 * (self.parts as usize), bytes),
-                parts: self.parts + 1,
-            };
+            let from = self.cards_read();
+            let cards = thirteen_of(bytes);
+            self.cards[from..from + cards.len()].copy_from_slice(cards);
+            self.parts += 1;
         }
         self
     }
 
-    // The refusal of what a deck record says, 0 for none.
-    pub fn part_refusal(self, bytes: &[u8]) -> u8
-        ensures { result ≡ part_refusal self bytes.now }
+    // The refusal of what a deck record says.
+    #[tactic(auto, unfolding(crate::specs::Part::part_refusal, crate::specs::Part::part_faulty))]
+    pub fn part_refusal(self, bytes: &[u8]) -> Result<(), Refusal>
+        ensures { number_of result ≡ part_refusal self bytes.now }
     {
         if !is_zero_from(bytes, 15) {
-            return 4;
+            return Err(Refusal::ByteNotZero);
         }
         if byte_at(bytes, 1) != self.parts {
-            return 10;
+            return Err(Refusal::DeckPart);
         }
-        let next = self.with_part(bytes);
-        if next.has_fault_from(13 * (self.parts as usize)) {
-            return 11;
+        if self.with_part(bytes).has_fault_from(self.cards_read()) {
+            return Err(Refusal::Card);
         }
-        0
+        Ok(())
     }
 
     // At most four parts, their cards without fault, zeros from there.
+    #[tactic(auto, using(cards::proofs::Decks::faulty_whole), unfolding(crate::specs::Part::deck_fits))]
     pub fn fits(self) -> bool
         ensures { result ≡ deck_fits self }
     {
-        let cards = self.cards;
-        let rest = is_blank_from(cards, 13 * (self.parts as usize));
+        let rest = is_zero_from(&self.cards, self.cards_read());
         (self.parts <= 4) & (!self.has_fault_from(0) & rest)
     }
 }

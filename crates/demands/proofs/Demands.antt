@@ -11,6 +11,8 @@ use mathlib.Core.Path.{◌≡◌, refl, sym, ap, ◌∙◌}
 use mathlib.Core.Bool.{true}
 use mathlib.Core.List.{List, [], ◌∷◌}
 use lib.ListN.{length, get_or, take, drop, replicate}
+use Rattle.std.specs.Prelude.{Result, Ok}
+use Rattle.causes.specs.declared.Refusal.{Refusal}
 use Rattle.counting.specs.Count.{total}
 use Rattle.counting.proofs.Once.{one_answer}
 use Rattle.records.specs.Bytes.{are_bytes}
@@ -25,26 +27,22 @@ use Rattle.led.specs.Held.{is_held}
 use Rattle.held.specs.Take.{Decides, takes}
 use Rattle.pool.specs.declared.Shared.{Shared}
 use Rattle.pool.specs.Pool.{share_answer, share_list}
-use Rattle.pool.specs.Pool.{number_of as share_number}
+use Rattle.causes.specs.Refusal.{number_of as refusal_number}
 use Rattle.pool.proofs.Shares.{answer_number, refused as share-refused}
 use Rattle.amounts.specs.Base.{hand_of, win, wins}
 use Rattle.results.specs.Results.{pool, results_long, results}
 use Rattle.reading.specs.File.{file_records, stop, read_by, read_file, held_records, read_prefix, refused_part}
 use Rattle.reading.proofs.Readings.{leads_read, read_by_same, read_number, read_held, read_leads}
 use Rattle.reading.proofs.Prefix.{prefix_held, prefix_number, prefix_ends, prefix_none, prefix_whole}
-use Rattle.writing.specs.declared.WriteAnswer.{WriteAnswer}
-use Rattle.writing.specs.Write.{write_answer, write_list, write_number}
+use Rattle.writing.specs.Write.{write_answer, write_list}
 use Rattle.writing.proofs.Answers.{write_left}
 use Rattle.filing.specs.Filed.{file_takes, rewrite_answer, rewrite_list}
 use Rattle.filing.proofs.Answers.{rewrite_left}
 use Rattle.pooling.proofs.Shared.{pool_totals}
-use Rattle.settlement.specs.declared.Settlement.{Settlement}
-use Rattle.settlement.specs.declared.Settlement.TheVariants.{Paid}
-use Rattle.settlement.specs.declared.FileSettlement.{FileSettlement}
-use Rattle.settlement.specs.declared.FileSettlement.TheVariants.{Paid as PaidFile}
-use Rattle.settlement.specs.Settle.{settle_answer, settle_list, settle_number, read_answer, read_list, file_answer, file_list, prefix_answer, prefix_list, file_number, file_place}
+use Rattle.settlement.specs.declared.Paid.{Paid}
+use Rattle.settlement.specs.declared.Faulty.{Faulty}
+use Rattle.settlement.specs.Settle.{settled_pool, settle_answer, settle_list, settle_number, read_answer, read_list, file_answer, file_list, prefix_answer, prefix_list, file_number, file_place}
 use Rattle.cutting.specs.Rounds.{shift_rounds, round_count}
-use Rattle.shifts.specs.declared.ShiftAnswer.{ShiftAnswer}
 use Rattle.shifts.specs.Shift.{round_amounts, round_answer, answer_long, lists_fit, shift_answer, shift_list, shift_number}
 use Rattle.shifts.proofs.Answers.{shift_left}
 use Rattle.apart.proofs.Laws.{settled_round}
@@ -74,15 +72,15 @@ pub demand_1_prefix : (first : List ℕ) (after : ℕ) (lent : List ℕ) → (fi
 demand_1_prefix first after lent = read_left (read_prefix first after) lent
 
 -- of a pool;
-pub demand_1_pool : (won : List ℕ) (most : ℕ) (lent : List ℕ) → (share_number (share_answer won most (length lent)) ≡ 0 → ⊥) → share_list won most lent ≡ lent
+pub demand_1_pool : (won : List ℕ) (most : ℕ) (lent : List ℕ) → (refusal_number (share_answer won most (length lent)) ≡ 0 → ⊥) → share_list won most lent ≡ lent
 demand_1_pool won most lent n = share-refused won most lent (λ e. n (answer_number won most (length lent) ∙ e))
 
 -- and a refused writing no byte of the room: of a held round,
-pub demand_1_write : (r : Round) (lent : List ℕ) → (write_number (write_answer r (length lent)) ≡ 0 → ⊥) → write_list r lent ≡ lent
+pub demand_1_write : (r : Round) (lent : List ℕ) → (refusal_number (write_answer r (length lent)) ≡ 0 → ⊥) → write_list r lent ≡ lent
 demand_1_write = write_left
 
 -- and of a round that is held as its file.
-pub demand_1_rewrite : (l lent : List ℕ) → (write_number (rewrite_answer l (length lent)) ≡ 0 → ⊥) → rewrite_list l lent ≡ lent
+pub demand_1_rewrite : (l lent : List ℕ) → (refusal_number (rewrite_answer l (length lent)) ≡ 0 → ⊥) → rewrite_list l lent ≡ lent
 demand_1_rewrite = rewrite_left
 
 -- A refused shift changes neither list.
@@ -100,15 +98,15 @@ both_once answer list a b x y p q = (one_answer answer a b p.0 q.0, one_answer l
 pub demand_2_record : (r : Round) (b : List ℕ) (s t : Step) → s ≡ takes r b → t ≡ takes r b → s ≡ t
 demand_2_record r b = one_answer (takes r b)
 
-pub demand_2_round : (r : Round) (lent : List ℕ) (a b : Settlement) (x y : List ℕ)
+pub demand_2_round : (r : Round) (lent : List ℕ) (a b : Result Paid Refusal) (x y : List ℕ)
     → (a ≡ settle_answer r (length lent)) × (x ≡ settle_list r lent) → (b ≡ settle_answer r (length lent)) × (y ≡ settle_list r lent) → (a ≡ b) × (x ≡ y)
 demand_2_round r lent = both_once (settle_answer r (length lent)) (settle_list r lent)
 
-pub demand_2_file : (l lent : List ℕ) (a b : FileSettlement) (x y : List ℕ)
+pub demand_2_file : (l lent : List ℕ) (a b : Result Paid Faulty) (x y : List ℕ)
     → (a ≡ file_answer l (length lent)) × (x ≡ file_list l lent) → (b ≡ file_answer l (length lent)) × (y ≡ file_list l lent) → (a ≡ b) × (x ≡ y)
 demand_2_file l lent = both_once (file_answer l (length lent)) (file_list l lent)
 
-pub demand_2_prefix : (first : List ℕ) (after : ℕ) (lent : List ℕ) (a b : FileSettlement) (x y : List ℕ)
+pub demand_2_prefix : (first : List ℕ) (after : ℕ) (lent : List ℕ) (a b : Result Paid Faulty) (x y : List ℕ)
     → (a ≡ prefix_answer first after (length lent)) × (x ≡ prefix_list first after lent)
     → (b ≡ prefix_answer first after (length lent)) × (y ≡ prefix_list first after lent) → (a ≡ b) × (x ≡ y)
 demand_2_prefix first after lent = both_once (prefix_answer first after (length lent)) (prefix_list first after lent)
@@ -116,23 +114,23 @@ demand_2_prefix first after lent = both_once (prefix_answer first after (length 
 pub demand_2_part : (l x y : List ℕ) → x ≡ refused_part l → y ≡ refused_part l → x ≡ y
 demand_2_part l = one_answer (refused_part l)
 
-pub demand_2_pool : (won : List ℕ) (most : ℕ) (lent : List ℕ) (a b : Shared) (x y : List ℕ)
+pub demand_2_pool : (won : List ℕ) (most : ℕ) (lent : List ℕ) (a b : Result Shared Refusal) (x y : List ℕ)
     → (a ≡ share_answer won most (length lent)) × (x ≡ share_list won most lent)
     → (b ≡ share_answer won most (length lent)) × (y ≡ share_list won most lent) → (a ≡ b) × (x ≡ y)
 demand_2_pool won most lent = both_once (share_answer won most (length lent)) (share_list won most lent)
 
-pub demand_2_write : (r : Round) (lent : List ℕ) (a b : WriteAnswer) (x y : List ℕ)
+pub demand_2_write : (r : Round) (lent : List ℕ) (a b : Result (Unit {0}) Refusal) (x y : List ℕ)
     → (a ≡ write_answer r (length lent)) × (x ≡ write_list r lent) → (b ≡ write_answer r (length lent)) × (y ≡ write_list r lent) → (a ≡ b) × (x ≡ y)
 demand_2_write r lent = both_once (write_answer r (length lent)) (write_list r lent)
 
-pub demand_2_rewrite : (l lent : List ℕ) (a b : WriteAnswer) (x y : List ℕ)
+pub demand_2_rewrite : (l lent : List ℕ) (a b : Result (Unit {0}) Refusal) (x y : List ℕ)
     → (a ≡ rewrite_answer l (length lent)) × (x ≡ rewrite_list l lent) → (b ≡ rewrite_answer l (length lent)) × (y ≡ rewrite_list l lent) → (a ≡ b) × (x ≡ y)
 demand_2_rewrite l lent = both_once (rewrite_answer l (length lent)) (rewrite_list l lent)
 
 pub demand_2_take_file : (l b : List ℕ) (a c : Answer) → a ≡ file_takes l b → c ≡ file_takes l b → a ≡ c
 demand_2_take_file l b = one_answer (file_takes l b)
 
-pub demand_2_shift : (l amounts answers : List ℕ) (a b : ShiftAnswer) (x y v w : List ℕ) →
+pub demand_2_shift : (l amounts answers : List ℕ) (a b : Result ℕ Faulty) (x y v w : List ℕ) →
     let fit = lists_fit l amounts answers in
     (a ≡ shift_answer l fit) × (x ≡ shift_list round_amounts l fit amounts) × (v ≡ shift_list round_answer l fit answers)
     → (b ≡ shift_answer l fit) × (y ≡ shift_list round_amounts l fit amounts) × (w ≡ shift_list round_answer l fit answers) → (a ≡ b) × (x ≡ y) × (v ≡ w)
@@ -140,28 +138,28 @@ demand_2_shift l amounts answers a b x y v w p q =
     (one_answer _ a b p.0 q.0, one_answer _ x y p.1 q.1, one_answer _ v w p.2 q.2)
 
 -- An accepted settlement: records, each accepted, lead to a finished round. The answer is that round's pool, and the list that round's results.
-pub record Accepted {A : Type 0} (paid : ℕ → ℕ → A) (answer : A) (list : List ℕ) (records : List (List ℕ)) (round : Round) : Type 0 where
+pub record Accepted {E : Type 0} (answer : Result Paid E) (list : List ℕ) (records : List (List ℕ)) (round : Round) : Type 0 where
   pub leads : Leads fresh_round records round
   pub finished : is_finished round ≡ true
   -- the pool is not refused: it is the round's wins, shared
   pub totals : ((pool round).number ≡ 0) × ((pool round).full ≡ total (wins round)) × ((pool round).paid ≡ total (pool round).shares)
-  pub answered : answer ≡ paid (pool round).full (pool round).paid
+  pub answered : answer ≡ Ok (settled_pool round)
   pub listed : list ≡ results round
 
-accepts : {A : Type 0} (paid : ℕ → ℕ → A) (answer : A) (list : List ℕ) (records : List (List ℕ)) (r : Round) → Leads fresh_round records r → is_finished r ≡ true
-    → (answer ≡ paid (pool r).full (pool r).paid) × (list ≡ results r) → Accepted paid answer list records r
-accepts paid answer list records r leads finished p =
+accepts : {E : Type 0} (answer : Result Paid E) (list : List ℕ) (records : List (List ℕ)) (r : Round) → Leads fresh_round records r → is_finished r ≡ true
+    → (answer ≡ Ok (settled_pool r)) × (list ≡ results r) → Accepted answer list records r
+accepts answer list records r leads finished p =
     record { leads = leads; finished = finished; totals = pool_totals r (records, leads); answered = p.0; listed = p.1 }
 
 -- of a held round, by records that lead to it; of a file, and of one of which the first bytes are held, by its own
 abbrev pub AcceptedRound : Round → List ℕ → List (List ℕ) → Type 0
-AcceptedRound r lent records = Accepted Paid (settle_answer r (length lent)) (settle_list r lent) records r
+AcceptedRound r lent records = Accepted (settle_answer r (length lent)) (settle_list r lent) records r
 
 abbrev pub AcceptedFile : List ℕ → List ℕ → Round → Type 0
-AcceptedFile l lent r = Accepted PaidFile (file_answer l (length lent)) (file_list l lent) (file_records l) r
+AcceptedFile l lent r = Accepted (file_answer l (length lent)) (file_list l lent) (file_records l) r
 
 abbrev pub AcceptedPrefix : List ℕ → ℕ → List ℕ → Round → Type 0
-AcceptedPrefix first after lent r = Accepted PaidFile (prefix_answer first after (length lent)) (prefix_list first after lent) (file_records first) r
+AcceptedPrefix first after lent r = Accepted (prefix_answer first after (length lent)) (prefix_list first after lent) (file_records first) r
 
 -- What is not refused is accepted: a held round (that its test decides which rounds are led is `settle`'s third promise),
 pub accepted_led_round : (r : Round) (lent : List ℕ) → Decides r (is_held r) → settle_number (settle_answer r (length lent)) ≡ 0
@@ -169,13 +167,13 @@ pub accepted_led_round : (r : Round) (lent : List ℕ) → Decides r (is_held r)
 accepted_led_round r lent decides z =
     let d = settled r lent z in
     let led = decides.led d.held in
-    (led.0, accepts Paid _ _ led.0 r led.1 d.finished (d.answer, d.list))
+    (led.0, accepts _ _ led.0 r led.1 d.finished (d.answer, d.list))
 
 -- a file,
 pub accepted_led_file : (l lent : List ℕ) → are_bytes l ≡ true → file_number (file_answer l (length lent)) ≡ 0 → (r : Round) × AcceptedFile l lent r
 accepted_led_file l lent h z =
     let d = read_done (read_file l) lent z in
-    ((read_file l).round, accepts PaidFile _ _ (file_records l) (read_file l).round (read_leads l h d.0) d.1.finished (d.2, d.3))
+    ((read_file l).round, accepts _ _ (file_records l) (read_file l).round (read_leads l h d.0) d.1.finished (d.2, d.3))
 
 -- and a file of which the first bytes are held: none comes after them.
 pub accepted_led_prefix : (first : List ℕ) (after : ℕ) (lent : List ℕ) → are_bytes first ≡ true → file_number (prefix_answer first after (length lent)) ≡ 0
@@ -188,7 +186,7 @@ accepted_led_prefix first after lent h z =
 pub led_accepted_round : (r : Round) (lent : List ℕ) (records : List (List ℕ)) → length lent ≡ results_long → Leads fresh_round records r → is_finished r ≡ true
     → AcceptedRound r lent records
 led_accepted_round r lent records room leads finished =
-    accepts Paid _ _ records r leads finished (settle_paid r lent (records, leads) room finished)
+    accepts _ _ records r leads finished (settle_paid r lent (records, leads) room finished)
 
 -- a file,
 pub led_accepted_file : (l lent : List ℕ) (r : Round) → length l % 16 ≡ 0 → length lent ≡ results_long → Leads fresh_round (file_records l) r → is_finished r ≡ true
@@ -197,7 +195,7 @@ unfolding read_file
 led_accepted_file l lent r even room leads finished =
     let read : read_file l ≡ stop r 0 (length (file_records l)) = simp even (leads_read (file_records l) r leads) in
     let p = read_paid (stop r 0 (length (file_records l))) lent (file_records l, leads) refl room finished in
-    accepts PaidFile _ _ (file_records l) r leads finished (rw read p)
+    accepts _ _ (file_records l) r leads finished (rw read p)
 
 -- and a file of which all bytes are held.
 pub led_accepted_prefix : (first lent : List ℕ) (r : Round) → length first % 16 ≡ 0 → length lent ≡ results_long → Leads fresh_round (file_records first) r → is_finished r ≡ true
@@ -234,24 +232,24 @@ prefix_is_file l lent h = (ap (λ w. read_answer w (length lent)) (prefix_whole 
 
 -- ==== Demand 3. Of every accepted settlement, and of the amounts in the list that was given:
 
-accepted_3 : {A : Type 0} (paid : ℕ → ℕ → A) (answer : A) (list : List ℕ) (records : List (List ℕ)) (r : Round) → Accepted paid answer list records r → Demand3 r list
-accepted_3 paid answer list records r a = rw a.listed (demand_3 r (records, a.leads) a.finished)
+accepted_3 : {E : Type 0} (answer : Result Paid E) (list : List ℕ) (records : List (List ℕ)) (r : Round) → Accepted answer list records r → Demand3 r list
+accepted_3 answer list records r a = rw a.listed (demand_3 r (records, a.leads) a.finished)
 
 -- of a held round,
 pub demand_3_round : (r : Round) (lent : List ℕ) → Decides r (is_held r) → settle_number (settle_answer r (length lent)) ≡ 0
     → (records : List (List ℕ)) × AcceptedRound r lent records × Demand3 r (settle_list r lent)
-demand_3_round r lent decides z = let a = accepted_led_round r lent decides z in (a.0, a.1, accepted_3 Paid _ _ a.0 r a.1)
+demand_3_round r lent decides z = let a = accepted_led_round r lent decides z in (a.0, a.1, accepted_3 _ _ a.0 r a.1)
 
 -- of a file,
 pub demand_3_file : (l lent : List ℕ) → are_bytes l ≡ true → file_number (file_answer l (length lent)) ≡ 0
     → (r : Round) × AcceptedFile l lent r × Demand3 r (file_list l lent)
-demand_3_file l lent h z = let a = accepted_led_file l lent h z in (a.0, a.1, accepted_3 PaidFile _ _ (file_records l) a.0 a.1)
+demand_3_file l lent h z = let a = accepted_led_file l lent h z in (a.0, a.1, accepted_3 _ _ (file_records l) a.0 a.1)
 
 -- and of a file of which the first bytes are held.
 pub demand_3_prefix : (first : List ℕ) (after : ℕ) (lent : List ℕ) → are_bytes first ≡ true → file_number (prefix_answer first after (length lent)) ≡ 0
     → (r : Round) × AcceptedPrefix first after lent r × Demand3 r (prefix_list first after lent)
 demand_3_prefix first after lent h z =
-    let a = (accepted_led_prefix first after lent h z).1 in (a.0, a.1, accepted_3 PaidFile _ _ (file_records first) a.0 a.1)
+    let a = (accepted_led_prefix first after lent h z).1 in (a.0, a.1, accepted_3 _ _ (file_records first) a.0 a.1)
 
 -- And of every settled round of a shift, in its own part of the list: round k, whose number among the answers is 0.
 pub demand_3_shift : (l amounts answers : List ℕ) → are_bytes l ≡ true → shift_number (shift_answer l (lists_fit l amounts answers)) ≡ 0
@@ -268,7 +266,7 @@ whole_accepted lent room = led_accepted_file whole_file lent whole_round whole_e
 
 -- These are the answer to its file and the list that is then given, a seat on each line.
 pub whole_file_lem : (lent : List ℕ) → length lent ≡ results_long
-    → (file_answer whole_file (length lent) ≡ PaidFile 600000 25000)
+    → (file_answer whole_file (length lent) ≡ Ok (record { full = 600000; paid = 25000 }))
     × (file_list whole_file lent ≡ 2183300 ∷ 20500 ∷ 10500 ∷ 0 ∷ 0
     ∷ 516700 ∷ 0 ∷ 0 ∷ 0 ∷ 0
     ∷ 0 ∷ 0 ∷ 0 ∷ 0 ∷ 0

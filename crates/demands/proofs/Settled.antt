@@ -9,7 +9,8 @@ use native.Mathlib.Omega.{arith}
 use lib.Dec.{eqb}
 use lib.ListN.{length}
 use borrow.Author.Tests.{eqb-true, eqb-false, eq-eqb, ne_eqb}
-use Rattle.std.specs.Prelude.{if◌then◌else◌}
+use Rattle.std.specs.Prelude.{Ok, if◌then◌else◌}
+use Rattle.causes.specs.Refusal.{answered}
 use Rattle.counting.proofs.Tests.{passed}
 use Rattle.round.specs.declared.Round.{Round}
 use Rattle.round.specs.Order.{is_finished}
@@ -17,11 +18,9 @@ use Rattle.led.specs.Held.{is_held}
 use Rattle.led.specs.Led.{Led}
 use Rattle.led.proofs.Kept.{led-held}
 use Rattle.reading.specs.declared.Reading.{Reading}
-use Rattle.results.specs.Results.{pool, results_long, results}
-use Rattle.settlement.specs.declared.Settlement.TheVariants.{Paid}
-use Rattle.settlement.specs.declared.FileSettlement.TheVariants.{Paid as PaidFile}
+use Rattle.results.specs.Results.{results_long, results}
 use Rattle.settlement.proofs.Answers.{all_paid, settle_number_lem, file_number_lem}
-use Rattle.settlement.specs.Settle.{settle_refusal, settle_answer, settle_list, settle_number, read_refusal, read_place, read_answer, read_list, file_number, file_place}
+use Rattle.settlement.specs.Settle.{settled_pool, settle_refusal, settle_answer, settle_list, settle_number, read_refusal, read_place, read_answer, read_list, file_number, file_place}
 
 -- ---- a round
 
@@ -35,11 +34,11 @@ module _ (r : Round) (lent : List ℕ) where
     pub held : is_held r ≡ true
     pub room : length lent ≡ results_long
     pub finished : is_finished r ≡ true
-    pub answer : settle_answer r (length lent) ≡ Paid (pool r).full (pool r).paid
+    pub answer : settle_answer r (length lent) ≡ Ok (settled_pool r)
     pub list : settle_list r lent ≡ results r
 
   pub settled : settle_number (settle_answer r (length lent)) ≡ 0 → Done
-  unfolding settle_refusal settle_answer settle_list
+  unfolding answered settle_refusal settle_answer settle_list
   settled z =
       let none : settle_refusal r (length lent) ≡ 0 = sym (settle_number_lem r (length lent)) ∙ z in
       let held = passed (is_held r) 16 (if not (eqb (length lent) results_long) then 1 else if not (is_finished r) then 16 else 0) none in
@@ -47,7 +46,7 @@ module _ (r : Round) (lent : List ℕ) where
       let done = passed (is_finished r) 15 0 room.1 in
       record { held = held.0; room = eqb-true (length lent) results_long room.0; finished = done.0; answer = simp none; list = simp none }
 
-  pub settle_paid : Led r → length lent ≡ results_long → is_finished r ≡ true → (settle_answer r (length lent) ≡ Paid (pool r).full (pool r).paid) × (settle_list r lent ≡ results r)
+  pub settle_paid : Led r → length lent ≡ results_long → is_finished r ≡ true → (settle_answer r (length lent) ≡ Ok (settled_pool r)) × (settle_list r lent ≡ results r)
   settle_paid l e f = let paid = all_paid r lent (led-held r l) e f (results r) refl in (sym paid.answer, sym paid.list)
 
   -- a held round is refused by 1 or 16
@@ -75,7 +74,7 @@ module _ (w : Reading) (lent : List ℕ) where
   read_left n = simp (ne_eqb (read_refusal w (length lent)) 0 (λ e. n (file_number_lem w (length lent) ∙ e)))
 
   pub read_done : file_number (read_answer w (length lent)) ≡ 0
-      → (w.number ≡ 0) × Done w.round lent × (read_answer w (length lent) ≡ PaidFile (pool w.round).full (pool w.round).paid) × (read_list w lent ≡ results w.round)
+      → (w.number ≡ 0) × Done w.round lent × (read_answer w (length lent) ≡ Ok (settled_pool w.round)) × (read_list w lent ≡ results w.round)
   unfolding read_refusal read_answer read_list
   read_done z =
       let none : read_refusal w (length lent) ≡ 0 = sym (file_number_lem w (length lent)) ∙ z in
@@ -85,7 +84,7 @@ module _ (w : Reading) (lent : List ℕ) where
       (read.0, settled w.round lent (settle_number_lem w.round (length lent) ∙ read.1), simp none, simp none)
 
   pub read_paid : Led w.round → w.number ≡ 0 → length lent ≡ results_long → is_finished w.round ≡ true
-      → (read_answer w (length lent) ≡ PaidFile (pool w.round).full (pool w.round).paid) × (read_list w lent ≡ results w.round)
+      → (read_answer w (length lent) ≡ Ok (settled_pool w.round)) × (read_list w lent ≡ results w.round)
   unfolding settle_refusal read_refusal read_answer read_list
   read_paid l z e f = let h = led-held w.round l in (simp (h, z, e, f), simp (h, z, e, f))
 

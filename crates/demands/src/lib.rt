@@ -4,7 +4,7 @@
 
 #![tactic(auto)]
 
-ghost use Rattle.std.specs.Prelude.{min, ◌≡◌};
+ghost use Rattle.std.specs.Prelude.{◌≡◌};
 ghost use Rattle.demands.specs.Floor.{other_win, floor_of};
 
 use results::maximum_of;
@@ -20,12 +20,6 @@ fn other_win(table: Table, royal: bool) -> u32
     5000 * (table.largest as u32)
 }
 
-fn least(a: u64, b: u64) -> u64
-    ensures { result ≡ min a b }
-{
-    if a < b { a } else { b }
-}
-
 // What a win in the pool is sure of at a table, in dollars, however the others stake or choose.
 pub fn sure_of(table: Table, royal: bool, win: u32) -> u64
     ensures { result ≡ floor_of table royal win }
@@ -36,5 +30,5 @@ pub fn sure_of(table: Table, royal: bool, win: u32) -> u64
     let most = maximum_of(table);
     let other = other_win(table, royal);
     let part = most * (win as u64) / (win as u64 + other as u64);
-    least(win as u64, part)
+    (win as u64).min(part)
 }

@@ -10,28 +10,36 @@ use lib.Seq.{take_all, take-suc, drop-cons}
 use Rattle.records.specs.Bytes.{zero_from}
 use Rattle.text.specs.Text.{hex_of}
 use Rattle.reading.specs.File.{file_records}
-use Rattle.reading.proofs.Records.{records_cons, records_end}
+use Rattle.reading.proofs.Records.{records_app, records_end}
 use Rattle.digits.specs.Digits.{hexes, trimmed, spelled_one, spelled}
 
 -- ---- digits
 
-pub hexes_more : (xs : List ℕ) (i : ℕ) → i < length xs → hexes (drop i xs) ≡ hex_of (get_or xs i 0) ++ hexes (drop (i + 1) xs)
+hexes_push : (xs : List ℕ) (x : ℕ) → hexes (xs ++ (x ∷ [])) ≡ hexes xs ++ hex_of x
 unfolding hexes
-hexes_more xs i h = rw (add-one, drop-cons xs i 0)
+hexes_push [] x = refl
+hexes_push (y ∷ ys) x = ap (λ (l : List ℕ). hex_of y ++ l) (hexes_push ys x) ∙ sym (append_assoc (hex_of y) (hexes ys) (hex_of x))
 
-pub hexes_over : (xs : List ℕ) (i : ℕ) → length xs ≤ i → hexes (drop i xs) ≡ []
-unfolding hexes
-hexes_over xs i h = rw drop_of_length-le
+pub hexes_more : (xs : List ℕ) (i : ℕ) → i < length xs → hexes (take (i + 1) xs) ≡ hexes (take i xs) ++ hex_of (get_or xs i 0)
+hexes_more xs i h = rw (add-one, take-suc xs i 0 h) (hexes_push (take i xs) (get_or xs i 0))
 
--- ---- records
+pub hexes_all : (xs : List ℕ) (i : ℕ) → length xs ≤ i → hexes (take i xs) ≡ hexes xs
+hexes_all xs i h = rw (take_all i xs h) refl
 
-pub spelled_more : (l : List ℕ) → 16 ≤ length l → spelled (file_records l) ≡ spelled_one (take 16 l) ++ spelled (file_records (drop 16 l))
+-- ---- records: those that were put, and those of the rest
+
+pub spelled_push : (bs : List (List ℕ)) (b : List ℕ) → spelled (bs ++ (b ∷ [])) ≡ spelled bs ++ spelled_one b
 unfolding spelled
-spelled_more l h = rw (records_cons l h)
+spelled_push [] b = append-nil (spelled_one b)
+spelled_push (c ∷ bs) b = ap (λ (l : List ℕ). spelled_one c ++ l) (spelled_push bs b) ∙ sym (append_assoc (spelled_one c) (spelled bs) (spelled_one b))
 
-pub spelled_over : (l : List ℕ) → length l < 16 → spelled (file_records l) ≡ []
-unfolding spelled
-spelled_over l h = rw (records_end l h)
+module _ (put : List (List ℕ)) (rest file : List ℕ) (all : put ++ file_records rest ≡ file_records file) where
+  pub records_more : (b later : List ℕ) → rest ≡ b ++ later → length b ≡ 16 → (put ++ (b ∷ [])) ++ file_records later ≡ file_records file
+  records_more b later e long =
+      append_assoc put (b ∷ []) (file_records later) ∙ ap (λ (l : List (List ℕ)). put ++ l) (sym (records_app b later long) ∙ ap file_records (sym e)) ∙ all
+
+  pub records_all : length rest < 16 → put ≡ file_records file
+  records_all h = sym (append-nil put) ∙ ap (λ (l : List (List ℕ)). put ++ l) (sym (records_end rest h)) ∙ all
 
 -- ---- without the zeros at the end: the first n are kept
 

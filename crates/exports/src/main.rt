@@ -22,12 +22,12 @@
 ghost use Rattle.std.specs.Prelude.{◌≤◌};
 
 use digits::put_digits;
-use pipes::{Outcome, called, end, print, read_all, tell};
+use pipes::{Fault, Outcome, called, end, print, read_all, tell};
 use ripplehatch::{
     ripplehatch_name_five, ripplehatch_name_lo, ripplehatch_name_six, ripplehatch_refused_part,
     ripplehatch_settle_file, ripplehatch_share, ripplehatch_take, ripplehatch_write,
 };
-use text::{put_bytes, put_line, put_list};
+use text::Page;
 
 // The round file's bytes.
 const WHOLE: usize = 208;
@@ -39,10 +39,11 @@ const LINE: usize = 1024;
 // What stands in what is lent, before.
 const BEFORE: u64 = 7;
 
-fn write_numbers(rt: &(impl Print + Eprint), what: &[u8], numbers: &[u64]) -> bool {
+fn write_numbers(rt: &(impl Print + Eprint), what: &[u8], numbers: &[u64]) -> Result<(), Fault> {
     let mut line = [0u8; LINE];
-    let last = put_line(&mut line, 0, what, numbers);
-    print(rt, &NAME, &line, last)
+    let mut page = Page::new(&mut line);
+    page.put_line(what, numbers);
+    print(rt, &NAME, page.text())
 }
 
 // The answer, what is told besides, and what the lent list then holds.
@@ -52,15 +53,21 @@ fn write_list(
     number: u8,
     told: &[u64],
     list: &[u64],
-) -> bool {
+) -> Result<(), Fault> {
     let mut line = [0u8; LINE];
-    let answered = put_list(&mut line, 0, what, &[number as u64]);
-    let besides = put_list(&mut line, answered, b"", told);
-    let last = put_line(&mut line, besides, b", list", list);
-    print(rt, &NAME, &line, last)
+    let mut page = Page::new(&mut line);
+    page.put_list(what, &[number]);
+    page.put_list(b"", told);
+    page.put_line(b", list", list);
+    print(rt, &NAME, page.text())
 }
 
-fn ask_settle(rt: &(impl Print + Eprint), what: &[u8], file: &[u8], room: usize) -> bool
+fn ask_settle(
+    rt: &(impl Print + Eprint),
+    what: &[u8],
+    file: &[u8],
+    room: usize,
+) -> Result<(), Fault>
     requires { room ≤ 35 }
 {
     let mut results = [BEFORE; 35];
@@ -72,29 +79,30 @@ fn ask_settle(rt: &(impl Print + Eprint), what: &[u8], file: &[u8], room: usize)
     write_list(rt, what, number, &[full, paid, place as u64], lent)
 }
 
-fn ask_part(rt: &(impl Print + Eprint), what: &[u8], file: &[u8]) -> bool {
+fn ask_part(rt: &(impl Print + Eprint), what: &[u8], file: &[u8]) -> Result<(), Fault> {
     let mut long = 7;
     let begins = ripplehatch_refused_part(file, &mut long);
     write_numbers(rt, what, &[begins as u64, long as u64])
 }
 
-fn ask_take(rt: &(impl Print + Eprint), held: &[u8], bytes: &[u8]) -> bool {
+fn ask_take(rt: &(impl Print + Eprint), held: &[u8], bytes: &[u8]) -> Result<(), Fault> {
     let mut finished = 7u8;
     let number = ripplehatch_take(held, bytes, &mut finished);
     write_numbers(rt, b"take", &[number as u64, finished as u64])
 }
 
 // The answer, and the bytes of the room.
-fn write_room(rt: &(impl Print + Eprint), number: u8, room: &[u8]) -> bool {
+fn write_room(rt: &(impl Print + Eprint), number: u8, room: &[u8]) -> Result<(), Fault> {
     let mut line = [0u8; LINE];
-    let answered = put_list(&mut line, 0, b"write", &[number as u64]);
-    let told = put_bytes(&mut line, answered, b", room ");
-    let spelled = put_digits(&mut line, told, room);
-    let last = put_bytes(&mut line, spelled, b"\n");
-    print(rt, &NAME, &line, last)
+    let mut page = Page::new(&mut line);
+    page.put_named(b"write ", number);
+    page.put(b", room ");
+    put_digits(&mut page, room);
+    page.put(b"\n");
+    print(rt, &NAME, page.text())
 }
 
-fn ask_write(rt: &(impl Print + Eprint), held: &[u8], room: usize) -> bool
+fn ask_write(rt: &(impl Print + Eprint), held: &[u8], room: usize) -> Result<(), Fault>
     requires { room ≤ 16 }
 {
     let mut bytes = [7u8; 16];
@@ -103,19 +111,19 @@ fn ask_write(rt: &(impl Print + Eprint), held: &[u8], room: usize) -> bool
     write_room(rt, number, lent)
 }
 
-fn ask_name(rt: &(impl Print + Eprint), what: &[u8], cards: &[u8]) -> bool {
+fn ask_name(rt: &(impl Print + Eprint), what: &[u8], cards: &[u8]) -> Result<(), Fault> {
     let mut name = 7;
     let number = ripplehatch_name_five(cards, &mut name);
     write_numbers(rt, what, &[number as u64, name as u64])
 }
 
-fn ask_lo(rt: &(impl Print + Eprint), what: &[u8], cards: &[u8]) -> bool {
+fn ask_lo(rt: &(impl Print + Eprint), what: &[u8], cards: &[u8]) -> Result<(), Fault> {
     let mut high = 7;
     let number = ripplehatch_name_lo(cards, &mut high);
     write_numbers(rt, what, &[number as u64, high as u64])
 }
 
-fn ask_six(rt: &(impl Print + Eprint), what: &[u8], cards: &[u8]) -> bool {
+fn ask_six(rt: &(impl Print + Eprint), what: &[u8], cards: &[u8]) -> Result<(), Fault> {
     let mut name = 7;
     let number = ripplehatch_name_six(cards, &mut name);
     write_numbers(rt, what, &[number as u64, name as u64])
@@ -127,7 +135,7 @@ fn ask_share(
     wins: &[u64],
     maximum: u64,
     room: usize,
-) -> bool
+) -> Result<(), Fault>
     requires { room ≤ 3 }
 {
     let mut shares = [BEFORE; 3];
@@ -136,164 +144,98 @@ fn ask_share(
     write_list(rt, what, number, &[], lent)
 }
 
-fn ask_files(rt: &(impl Print + Eprint), file: [u8; WHOLE]) -> bool {
-    if !ask_settle(rt, b"file", &file, 35) {
-        return false;
-    }
-    if !ask_settle(rt, b"odd", &file[0..207], 35) {
-        return false;
-    }
-    if !ask_settle(rt, b"late", &file[16..208], 35) {
-        return false;
-    }
+fn ask_files(rt: &(impl Print + Eprint), file: [u8; WHOLE]) -> Result<(), Fault> {
+    ask_settle(rt, b"file", &file, 35)?;
+    ask_settle(rt, b"odd", &file[0..207], 35)?;
+    ask_settle(rt, b"late", &file[16..208], 35)?;
     ask_settle(rt, b"file", &file, 28)
 }
 
-fn ask_parts(rt: &(impl Print + Eprint), file: [u8; WHOLE]) -> bool {
-    if !ask_part(rt, b"part", &file) {
-        return false;
-    }
-    if !ask_part(rt, b"part", &file[0..207]) {
-        return false;
-    }
+fn ask_parts(rt: &(impl Print + Eprint), file: [u8; WHOLE]) -> Result<(), Fault> {
+    ask_part(rt, b"part", &file)?;
+    ask_part(rt, b"part", &file[0..207])?;
     ask_part(rt, b"part", &file[16..208])
 }
 
-fn ask_refused(rt: &(impl Print + Eprint), file: [u8; WHOLE], more: [u8; WHOLE]) -> bool {
-    if !ask_take(rt, &file[0..192], &more[176..192]) {
-        return false;
-    }
-    if !ask_take(rt, &file[0..192], &more[192..207]) {
-        return false;
-    }
-    if !ask_take(rt, &file, &more[192..208]) {
-        return false;
-    }
+fn ask_refused(
+    rt: &(impl Print + Eprint),
+    file: [u8; WHOLE],
+    more: [u8; WHOLE],
+) -> Result<(), Fault> {
+    ask_take(rt, &file[0..192], &more[176..192])?;
+    ask_take(rt, &file[0..192], &more[192..207])?;
+    ask_take(rt, &file, &more[192..208])?;
     ask_take(rt, &file[0..207], &more[192..208])
 }
 
 // The records are handed from a copy of the file.
-fn ask_held(rt: &(impl Print + Eprint), file: [u8; WHOLE], more: [u8; WHOLE]) -> bool {
-    if !ask_take(rt, &file[0..0], &more[0..16]) {
-        return false;
-    }
-    if !ask_take(rt, &file[0..192], &more[192..208]) {
-        return false;
-    }
+fn ask_held(rt: &(impl Print + Eprint), file: [u8; WHOLE], more: [u8; WHOLE]) -> Result<(), Fault> {
+    ask_take(rt, &file[0..0], &more[0..16])?;
+    ask_take(rt, &file[0..192], &more[192..208])?;
     ask_refused(rt, file, more)
 }
 
-fn ask_written(rt: &(impl Print + Eprint), file: [u8; WHOLE]) -> bool {
-    if !ask_write(rt, &file[0..16], 16) {
-        return false;
-    }
-    if !ask_write(rt, &file[0..16], 15) {
-        return false;
-    }
-    if !ask_write(rt, &file[0..0], 0) {
-        return false;
-    }
+fn ask_written(rt: &(impl Print + Eprint), file: [u8; WHOLE]) -> Result<(), Fault> {
+    ask_write(rt, &file[0..16], 16)?;
+    ask_write(rt, &file[0..16], 15)?;
+    ask_write(rt, &file[0..0], 0)?;
     ask_write(rt, &file[16..32], 16)
 }
 
-fn ask_names(rt: &(impl Print + Eprint)) -> bool {
-    if !ask_name(rt, b"name", &[50, 46, 34, 38, 42]) {
-        return false;
-    }
-    if !ask_name(rt, b"name", &[26, 30, 34, 38, 42]) {
-        return false;
-    }
-    if !ask_name(rt, b"name", &[50, 50, 34, 38, 42]) {
-        return false;
-    }
+fn ask_names(rt: &(impl Print + Eprint)) -> Result<(), Fault> {
+    ask_name(rt, b"name", &[50, 46, 34, 38, 42])?;
+    ask_name(rt, b"name", &[26, 30, 34, 38, 42])?;
+    ask_name(rt, b"name", &[50, 50, 34, 38, 42])?;
     ask_name(rt, b"name", &[50, 50, 34, 38])
 }
 
-fn ask_los(rt: &(impl Print + Eprint)) -> bool {
-    if !ask_lo(rt, b"lo", &[0, 5, 10, 15, 20]) {
-        return false;
-    }
-    if !ask_lo(rt, b"lo", &[0, 5, 10, 15, 16]) {
-        return false;
-    }
-    if !ask_lo(rt, b"lo", &[0, 5, 10, 15, 0]) {
-        return false;
-    }
+fn ask_los(rt: &(impl Print + Eprint)) -> Result<(), Fault> {
+    ask_lo(rt, b"lo", &[0, 5, 10, 15, 20])?;
+    ask_lo(rt, b"lo", &[0, 5, 10, 15, 16])?;
+    ask_lo(rt, b"lo", &[0, 5, 10, 15, 0])?;
     ask_lo(rt, b"lo", &[0, 5, 10, 0])
 }
 
-fn ask_sixes(rt: &(impl Print + Eprint)) -> bool {
-    if !ask_six(rt, b"six", &[29, 33, 37, 41, 45, 49]) {
-        return false;
-    }
-    if !ask_six(rt, b"six", &[30, 34, 38, 42, 46, 50]) {
-        return false;
-    }
-    if !ask_six(rt, b"six", &[26, 30, 34, 38, 42, 46]) {
-        return false;
-    }
-    if !ask_six(rt, b"six", &[29, 33, 37, 41, 45, 29]) {
-        return false;
-    }
+fn ask_sixes(rt: &(impl Print + Eprint)) -> Result<(), Fault> {
+    ask_six(rt, b"six", &[29, 33, 37, 41, 45, 49])?;
+    ask_six(rt, b"six", &[30, 34, 38, 42, 46, 50])?;
+    ask_six(rt, b"six", &[26, 30, 34, 38, 42, 46])?;
+    ask_six(rt, b"six", &[29, 33, 37, 41, 45, 29])?;
     ask_six(rt, b"six", &[29, 33, 37, 41, 45])
 }
 
-fn ask_shares(rt: &(impl Print + Eprint)) -> bool {
+fn ask_shares(rt: &(impl Print + Eprint)) -> Result<(), Fault> {
     let wins = [20000u64, 10000, 500];
-    if !ask_share(rt, b"share", &wins, 25000, 3) {
-        return false;
-    }
-    if !ask_share(rt, b"share", &wins, 25000, 2) {
-        return false;
-    }
+    ask_share(rt, b"share", &wins, 25000, 3)?;
+    ask_share(rt, b"share", &wins, 25000, 2)?;
     ask_share(rt, b"share", &wins, 75001, 3)
 }
 
 // Stops at the first line that can't be written.
-fn ask_all(rt: &(impl Print + Eprint), file: [u8; WHOLE]) -> Outcome {
-    if !ask_files(rt, file) {
-        return Outcome::Fault;
-    }
-    if !ask_parts(rt, file) {
-        return Outcome::Fault;
-    }
-    if !ask_held(rt, file, file) {
-        return Outcome::Fault;
-    }
-    if !ask_written(rt, file) {
-        return Outcome::Fault;
-    }
-    if !ask_names(rt) {
-        return Outcome::Fault;
-    }
-    if !ask_los(rt) {
-        return Outcome::Fault;
-    }
-    if !ask_sixes(rt) {
-        return Outcome::Fault;
-    }
-    if !ask_shares(rt) {
-        return Outcome::Fault;
-    }
-    Outcome::Done
+fn ask_all(rt: &(impl Print + Eprint), file: [u8; WHOLE]) -> Result<Outcome, Fault> {
+    ask_files(rt, file)?;
+    ask_parts(rt, file)?;
+    ask_held(rt, file, file)?;
+    ask_written(rt, file)?;
+    ask_names(rt)?;
+    ask_los(rt)?;
+    ask_sixes(rt)?;
+    ask_shares(rt)?;
+    Ok(Outcome::Done)
 }
 
-fn asked(rt: &(impl Input + Print + Eprint)) -> Outcome {
+fn asked(rt: &(impl Input + Print + Eprint)) -> Result<Outcome, Fault> {
     let mut file = [0u8; WHOLE];
-    let got = read_all(rt, &NAME, &mut file, b"reads a file of 208 bytes");
-    if got.failed {
-        return Outcome::Fault;
-    }
-    if got.bytes < WHOLE {
+    let bytes = read_all(rt, &NAME, &mut file, b"reads a file of 208 bytes")?;
+    if bytes < WHOLE {
         tell(rt, &NAME, b"reads a file of 208 bytes");
-        return Outcome::Fault;
+        return Err(Fault);
     }
     ask_all(rt, file)
 }
 
 fn main(rt: HostRuntime) {
-    let call = called(&rt, &NAME, true);
-    if call.sound {
+    if let Some(call) = called(&rt, &NAME, true) {
         end(&rt, &NAME, call, asked(&rt));
     }
 }

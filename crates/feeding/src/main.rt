@@ -18,40 +18,38 @@
 
 use by_hand::changed;
 use columns::{line_end, number_at, numbers_of};
-use pipes::{Outcome, called, end, read_all, tell_unwritten, write_out};
+use pipes::{Fault, Outcome, called, end, read_all, tell_unwritten, write_out};
 use records::byte_at;
 use round::{Answer, Round};
-use std::io::Result;
-use text::{put_bytes, put_line, up_to};
+use std::io;
+use text::Page;
 
 const NAME: [u8; 7] = *b"feeding";
 
-// The round that is held after a line, and what comes behind the line where it is printed, which ends at `last`.
+// The round that is held after a line, and the answer to the line where it is a record.
 #[derive(Clone, Copy)]
 struct AfterLine {
     round: Round,
-    tail: [u8; 32],
-    last: usize,
+    answer: Option<Answer>,
 }
 
-fn put_answer(tail: &mut [u8], answer: Answer) -> usize {
+fn put_answer(page: &mut Page<'_>, answer: Option<Answer>) {
     match answer {
-        Answer::Next => put_bytes(tail, 0, b": next\n"),
-        Answer::Finished => put_bytes(tail, 0, b": finished\n"),
-        Answer::Refused(number) => put_line(tail, 0, b": refused", &[number as u64]),
+        Some(Answer::Next) => page.put(b": next"),
+        Some(Answer::Finished) => page.put(b": finished"),
+        Some(Answer::Refused(number)) => page.put_named(b": refused ", number),
+        None => {}
     }
+    page.put(b"\n");
 }
 
 fn fed(round: Round, bytes: &[u8]) -> AfterLine {
     let step = held::take(round, bytes);
     let answer = step.answer;
     let next = step.round;
-    let mut tail = [0u8; 32];
-    let last = put_answer(&mut tail, answer);
     AfterLine {
         round: next,
-        tail,
-        last,
+        answer: Some(answer),
     }
 }
 
@@ -59,8 +57,7 @@ fn fed(round: Round, bytes: &[u8]) -> AfterLine {
 fn unfed(round: Round) -> AfterLine {
     AfterLine {
         round,
-        tail: [10; 32],
-        last: 1,
+        answer: None,
     }
 }
 
@@ -68,17 +65,17 @@ fn unfed(round: Round) -> AfterLine {
 fn fed_first(round: Round, line: &[u8], n: usize) -> AfterLine {
     let numbers = numbers_of(line);
     if n <= 21 {
-        return fed(round, &numbers[0..n]);
+        return fed(round, &numbers[..n]);
     }
     unfed(round)
 }
 
 fn after_line(round: Round, line: &[u8]) -> AfterLine {
     let first = byte_at(line, 0);
-    if first == 32 {
+    if first == b' ' {
         return fed_first(round, line, 16);
     }
-    if first == 33 {
+    if first == b'!' {
         return fed_first(round, line, line.len() / 4);
     }
     let a = number_at(line, 0);
@@ -87,49 +84,38 @@ fn after_line(round: Round, line: &[u8]) -> AfterLine {
     unfed(changed(round, first, a, b, c))
 }
 
-fn write_line(rt: &impl Print, line: &[u8], tail: [u8; 32], last: usize) -> Result<()> {
-    write_out(rt, line)?;
-    write_out(rt, up_to(&tail, last))
-}
-
 // Prints the line as it is, then what comes behind it. Answers the round that is held after it.
-fn feed_line(rt: &impl Print, round: Round, line: &[u8]) -> Result<Round> {
+fn feed_line(rt: &impl Print, round: Round, line: &[u8]) -> io::Result<Round> {
     let after = after_line(round, line);
     let next = after.round;
-    let tail = after.tail;
-    write_line(rt, line, tail, after.last)?;
+    let mut room = [0u8; 32];
+    let mut page = Page::new(&mut room);
+    put_answer(&mut page, after.answer);
+    write_out(rt, line)?;
+    write_out(rt, page.text())?;
     Ok(next)
 }
 
-fn feed_lines(rt: &impl Print, text: &[u8]) -> Result<()> {
+fn feed_lines(rt: &impl Print, text: &[u8]) -> io::Result<()> {
     let mut round = Round::fresh();
-    let mut at = 0;
-    while at < text.len() {
-        let end = line_end(text, at);
-        round = feed_line(rt, round, &text[at..end])?;
-        at = end + 1;
+    let mut rest = text;
+    while !rest.is_empty() {
+        let end = line_end(rest, 0);
+        round = feed_line(rt, round, &rest[..end])?;
+        rest = rest.get(end.saturating_add(1)..).unwrap_or(&[]);
     }
     Ok(())
 }
 
-fn run(rt: &(impl Input + Print + Eprint)) -> Outcome {
+fn run(rt: &(impl Input + Print + Eprint)) -> Result<Outcome, Fault> {
     let mut text = [0u8; 65536];
-    let got = read_all(rt, &NAME, &mut text, b"reads at most 65,536 bytes");
-    if got.failed {
-        return Outcome::Fault;
-    }
-    match feed_lines(rt, &text[..got.bytes]) {
-        Ok(()) => Outcome::Done,
-        Err(error) => {
-            tell_unwritten(rt, &NAME, error);
-            Outcome::Fault
-        }
-    }
+    let bytes = read_all(rt, &NAME, &mut text, b"reads at most 65,536 bytes")?;
+    feed_lines(rt, &text[..bytes]).map_err(|error| tell_unwritten(rt, &NAME, error))?;
+    Ok(Outcome::Done)
 }
 
 fn main(rt: HostRuntime) {
-    let call = called(&rt, &NAME, true);
-    if call.sound {
+    if let Some(call) = called(&rt, &NAME, true) {
         end(&rt, &NAME, call, run(&rt));
     }
 }

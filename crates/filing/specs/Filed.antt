@@ -1,12 +1,12 @@
 -- A round that is held as the file of it: accepted records, one after the other. The empty file is the fresh round.
 -- Assumes nothing.
-use Rattle.std.specs.Prelude.{ℕ, Bool, not, List, eqb, if◌then◌else◌}
+use Rattle.std.specs.Prelude.{ℕ, Bool, not, List, Result, Err, eqb, if◌then◌else◌}
+use Rattle.causes.specs.declared.Refusal.{Refusal}
+use Rattle.causes.specs.declared.Refusal.TheVariants.{NotHeld}
 use Rattle.round.specs.declared.Answer.{Answer}
 use Rattle.round.specs.declared.Answer.TheVariants.{Next, Finished, Refused}
 use Rattle.round.specs.Feed.{refusal, feed}
 use Rattle.reading.specs.File.{read_file}
-use Rattle.writing.specs.declared.WriteAnswer.{WriteAnswer}
-use Rattle.writing.specs.declared.WriteAnswer.TheVariants.{Refused as RefusedFile}
 use Rattle.writing.specs.Write.{write_refusal, write_answer, write_list}
 
 -- no record of the held bytes is refused, nor is there an odd tail
@@ -35,8 +35,8 @@ finished_told (Refused number) was = was
 unfoldable pub rewrite_refusal : List ℕ → ℕ → ℕ
 rewrite_refusal l room = if not (is_file l) then 17 else write_refusal (read_file l).round room
 
-unfoldable pub rewrite_answer : List ℕ → ℕ → WriteAnswer
-rewrite_answer l room = if not (is_file l) then RefusedFile 17 else write_answer (read_file l).round room
+unfoldable pub rewrite_answer : List ℕ → ℕ → Result (Unit {0}) Refusal
+rewrite_answer l room = if not (is_file l) then Err NotHeld else write_answer (read_file l).round room
 
 -- The room then holds the file; after a refusal it is unchanged.
 unfoldable pub rewrite_list : List ℕ → List ℕ → List ℕ

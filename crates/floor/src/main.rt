@@ -17,60 +17,51 @@
 
 #![tactic(auto)]
 
-use columns::{digit_at, line_end};
 use demands::sure_of;
-use pipes::{Outcome, called, end, read_all, tell_unwritten, write_out};
-use records::{byte_at, is_between};
+use pipes::{Fault, Outcome, called, end, read_all, tell_unwritten, write_out};
 use seating::Table;
-use std::io::Result;
-use text::{put_bytes, put_named, up_to};
+use std::io;
+use text::Page;
 
 const NAME: [u8; 5] = *b"floor";
 
-// A number in a line, and the place behind it. Where a line has no number the value is 0, which is no ante and no wager.
+// A number in a line, and what comes behind it. Where a line has no number the value is 0, which is no ante and no wager.
 #[derive(Clone, Copy)]
-struct Number {
+struct Number<'a> {
     value: u16,
-    next: usize,
+    rest: &'a [u8],
 }
 
 // Numbers above 65,535 count as 65,535, which is no ante and no wager either.
 fn with_digit(value: u16, digit: u8) -> u16 {
-    let more = 10 * (value as u32) + digit as u32;
-    if more < 65535 { more as u16 } else { 65535 }
+    value.saturating_mul(10).saturating_add(digit as u16)
 }
 
-// A space, a tab or a carriage return.
-fn is_blank(character: u8) -> bool {
-    (character == 32) | (character == 9) | (character == 13)
+// A line without the blanks in front: spaces, tabs and carriage returns.
+fn skip_blanks(line: &[u8]) -> &[u8] {
+    let blanks = line
+        .iter()
+        .take_while(|character| matches!(**character, b' ' | b'\t' | b'\r'))
+        .count();
+    &line[blanks.min(line.len())..]
 }
 
-fn blanks_end(line: &[u8], from: usize) -> usize {
-    let mut at = from;
-    while at < line.len() {
-        if !is_blank(line[at]) {
-            return at;
-        }
-        at += 1;
-    }
-    at
-}
-
-fn number_from(line: &[u8], from: usize) -> Number {
-    let mut value = 0;
-    let mut next = blanks_end(line, from);
-    while next < line.len() {
-        if !is_between(48, 57, byte_at(line, next)) {
-            return Number { value, next };
-        }
-        value = with_digit(value, digit_at(line, next));
-        next += 1;
-    }
-    Number { value, next }
+fn number_from(line: &[u8]) -> Number<'_> {
+    let text = skip_blanks(line);
+    let digits = text
+        .iter()
+        .take_while(|character| matches!(**character, b'0'..=b'9'))
+        .count();
+    let (number, rest) = text.split_at(digits.min(text.len()));
+    let value = number.iter().fold(
+        0,
+        |value, digit| with_digit(value, digit.saturating_sub(b'0')),
+    );
+    Number { value, rest }
 }
 
 fn byte_of(number: u16) -> u8 {
-    if number < 255 { number as u8 } else { 255 }
+    number.min(255) as u8
 }
 
 // A table with these limits. The pay tables play no part here; their numbers are ones that there are.
@@ -91,81 +82,68 @@ fn wager_fits(table: Table, wager: u16) -> bool {
     (4 * (table.smallest as u16) <= wager) & (wager <= 10 * (table.largest as u16))
 }
 
-fn put_sure(line: &mut [u8], at: usize, words: &[u8], sure: u64, win: u32) -> usize {
-    let least = put_named(line, at, words, sure);
-    put_named(line, least, b" of ", win as u64)
+fn put_sure(page: &mut Page<'_>, words: &[u8], sure: u64, win: u32) {
+    page.put_named(words, sure);
+    page.put_named(b" of ", win);
 }
 
 // A line has at most 166 bytes, so it fits its room.
-fn tell_floors(rt: &impl Print, table: Table, wager: u16) -> Result<()> {
+fn tell_floors(rt: &impl Print, table: Table, wager: u16) -> io::Result<()> {
     let straight = 100 * (wager as u32);
     let royal = 500 * (wager as u32);
-    let mut line = [0u8; 256];
-    let from = put_named(&mut line, 0, b"table ", table.smallest as u64);
-    let to = put_named(&mut line, from, b" to ", table.largest as u64);
-    let wagered = put_named(&mut line, to, b", base wager ", wager as u64);
-    let first = put_sure(
-        &mut line,
-        wagered,
+    let mut room = [0u8; 256];
+    let mut page = Page::new(&mut room);
+    page.put_named(b"table ", table.smallest);
+    page.put_named(b" to ", table.largest);
+    page.put_named(b", base wager ", wager);
+    put_sure(
+        &mut page,
         b": straight flush at least ",
         sure_of(table, false, straight),
         straight,
     );
-    let second = put_sure(
-        &mut line,
-        first,
+    put_sure(
+        &mut page,
         b", royal flush at least ",
         sure_of(table, true, royal),
         royal,
     );
-    let last = put_bytes(&mut line, second, b"\n");
-    write_out(rt, up_to(&line, last))
+    page.put(b"\n");
+    write_out(rt, page.text())
 }
 
 // Fails where what it had to say could not be written.
-fn tell_line(rt: &impl Print, line: &[u8]) -> Result<()> {
-    if blanks_end(line, 0) == line.len() {
+fn tell_line(rt: &impl Print, line: &[u8]) -> io::Result<()> {
+    if skip_blanks(line).is_empty() {
         return Ok(());
     }
-    let smallest = number_from(line, 0);
-    let largest = number_from(line, smallest.next);
-    let wager = number_from(line, largest.next);
+    let smallest = number_from(line);
+    let largest = number_from(smallest.rest);
+    let wager = number_from(largest.rest);
     let table = table_of(smallest.value, largest.value);
-    let over = blanks_end(line, wager.next) == line.len();
+    let over = skip_blanks(wager.rest).is_empty();
     if table.fits() & wager_fits(table, wager.value) & over {
         return tell_floors(rt, table, wager.value);
     }
     write_out(rt, b"not a table and a base wager\n")
 }
 
-fn tell_lines(rt: &impl Print, text: &[u8]) -> Result<()> {
-    let mut at = 0;
-    while at < text.len() {
-        let end = line_end(text, at);
-        tell_line(rt, &text[at..end])?;
-        at = end + 1;
+fn tell_lines(rt: &impl Print, text: &[u8]) -> io::Result<()> {
+    for line in text.split(|character| *character == b'\n') {
+        tell_line(rt, line)?;
     }
     Ok(())
 }
 
-fn run(rt: &(impl Input + Print + Eprint)) -> Outcome {
+fn run(rt: &(impl Input + Print + Eprint)) -> Result<Outcome, Fault> {
     let mut text = [0u8; 65536];
-    let got = read_all(rt, &NAME, &mut text, b"reads at most 65,536 bytes");
-    if got.failed {
-        return Outcome::Fault;
-    }
-    match tell_lines(rt, &text[..got.bytes]) {
-        Ok(()) => Outcome::Done,
-        Err(error) => {
-            tell_unwritten(rt, &NAME, error);
-            Outcome::Fault
-        }
-    }
+    let bytes = read_all(rt, &NAME, &mut text, b"reads at most 65,536 bytes")?;
+    tell_lines(rt, &text[..bytes]).map_err(|error| tell_unwritten(rt, &NAME, error))?;
+    Ok(Outcome::Done)
 }
 
 fn main(rt: HostRuntime) {
-    let call = called(&rt, &NAME, true);
-    if call.sound {
+    if let Some(call) = called(&rt, &NAME, true) {
         end(&rt, &NAME, call, run(&rt));
     }
 }

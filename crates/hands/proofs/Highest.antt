@@ -1,26 +1,26 @@
 -- The highest rank that occurs, looked for from the top.
 -- Assumes nothing.
-use Prim.Native.Nat.{ℕ, zero, suc, ◌-◌, ◌≤◌, ◌<◌}
+use Prim.Native.Nat.{ℕ, zero, suc, ◌+◌, ◌<◌}
 use mathlib.Core.Path.{◌≡◌, refl}
+use mathlib.Core.Bool.{Bool, true, false, cond}
 use native.Mathlib.Omega.{arith}
+use lib.Dec.{ltb}
 use borrow.Author.Tests.{lt-ltb, le-ltb}
+use Rattle.std.specs.Prelude.{Some, unwrap_or, if◌then◌else◌}
+use Rattle.std.specs.List.{find}
+use Rattle.counting.proofs.Library.{down}
 use Rattle.counting.proofs.Ranges.{below_suc}
 use Rattle.hands.specs.Hand.{highest}
 
-pub highest_here : (n : ℕ) (h : ℕ → ℕ) → 0 < n → 0 < h (n - 1) → highest n h ≡ n - 1
+-- the first that occurs of the ranks from n down
+pub highest-find : (n : ℕ) (h : ℕ → ℕ) → unwrap_or (find (λ r. ltb 0 (h r)) (down 0 n)) 0 ≡ highest n h
 unfolding highest
-highest_here zero h a b = absurd (omega arith)
-highest_here (suc n) h a b = let e : suc n - 1 ≡ n = omega arith in rw e (simp (lt-ltb 0 (h n) (rw e at b)))
-
-pub highest_below : (n : ℕ) (h : ℕ → ℕ) → 0 < n → h (n - 1) ≤ 0 → highest n h ≡ highest (n - 1) h
-unfolding highest
-highest_below zero h a b = absurd (omega arith)
-highest_below (suc n) h a b = let e : suc n - 1 ≡ n = omega arith in rw e (simp (le-ltb 0 (h n) (rw e at b)))
-
-pub highest-none : (n : ℕ) (h : ℕ → ℕ) → n ≤ 0 → highest n h ≡ 0
-unfolding highest
-highest-none zero h a = refl
-highest-none (suc n) h a = absurd (omega arith)
+highest-find zero h = refl
+highest-find (suc n) h = let e : 0 + n ≡ n = omega arith in rw e (go (ltb 0 (h n)) (highest-find n h))
+  where
+    go : (b : Bool) → unwrap_or (find (λ r. ltb 0 (h r)) (down 0 n)) 0 ≡ highest n h → unwrap_or (cond b (Some n) (find (λ r. ltb 0 (h r)) (down 0 n))) 0 ≡ (if b then n else highest n h)
+    go true below = refl
+    go false below = below
 
 -- a rank that occurs, and none above it does
 pub highest_is : (n r : ℕ) (h : ℕ → ℕ) → r < n → 0 < h r → ((k : ℕ) → r < k → k < n → h k ≡ 0) → highest n h ≡ r

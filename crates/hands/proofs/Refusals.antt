@@ -1,7 +1,7 @@
 -- A hand that is not refused is as many cards as were asked for, with no fault, and the other way round.
 -- Assumes nothing.
-use Prim.Native.Nat.{ℕ, ◌<◌}
-use mathlib.Core.Path.{◌≡◌, sym, ◌∙◌}
+use Prim.Native.Nat.{ℕ}
+use mathlib.Core.Path.{◌≡◌}
 use mathlib.Core.Bool.{false, not}
 use mathlib.Core.List.{List}
 use native.Mathlib.Omega.{arith}
@@ -21,7 +21,3 @@ not_refused n cs e =
 pub sound_hand : (n : ℕ) (cs : List ℕ) → length cs ≡ n → faulty cs ≡ false → hand_refusal n cs ≡ 0
 unfolding hand_refusal
 sound_hand n cs e f = simp (eq-eqb _ _ e, f)
-
--- of such a hand each place that was asked for is there
-pub within : (n i : ℕ) (cs : List ℕ) (refusal : ℕ) → refusal ≡ hand_refusal n cs → refusal ≡ 0 → i < n → i < length cs
-within n i cs refusal e z l = omega (arith, (not_refused n cs (sym e ∙ z)).0)

@@ -11,51 +11,47 @@ ghost use Rattle.round.specs.Feed.{number_of};
 ghost use Rattle.led.specs.Held.{opened, deck_after_seats};
 ghost use Rattle.held.specs.Take.{Decides, take_refusal, Taken};
 
+use causes::Refusal;
 use records::any_plays;
 use round::{Round, Step};
 
 // How many streets have opened: none before the whole deck was read.
+#[tactic(auto, using(choosing::proofs::Street::streets_le))]
 fn opened_of(round: Round) -> u8
     ensures { result ≡ opened round }
 {
-    let antes = round.wagers.antes;
-    let play = round.play;
-    if round.deck.parts == 4 {
-        return play.streets_over(antes) + 1;
+    if round.deck.parts != 4 {
+        return 0;
     }
-    0
+    round.play.streets_over(round.wagers.antes) + 1
 }
 
 // Deck parts came only after a seat.
 fn is_dealt_after_seats(round: Round) -> bool
     ensures { result ≡ deck_after_seats round }
 {
-    let antes = round.wagers.antes;
-    (round.deck.parts == 0) | any_plays(antes)
+    (round.deck.parts == 0) | any_plays(round.wagers.antes)
 }
 
 // The round is the fresh one, or accepted records lead to it.
+#[tactic(auto, using(crate::proofs::Answers::decides), unfolding(led::specs::Held::is_held))]
 pub fn is_held(round: Round) -> bool
     ensures { Decides round result }
 {
-    let table = round.table;
-    let wagers = round.wagers;
-    let antes = round.wagers.antes;
-    let deck = round.deck;
-    let play = round.play;
-    let sat = table.fits() & wagers.fit(table);
-    let dealt = deck.fits() & is_dealt_after_seats(round);
-    sat & (dealt & play.fits(antes, opened_of(round)))
+    let sat = round.table.fits() & round.wagers.fit(round.table);
+    let dealt = round.deck.fits() & is_dealt_after_seats(round);
+    sat & (dealt & round.play.fits(round.wagers.antes, opened_of(round)))
 }
 
 // Takes a record: 17 where the round may not be held, 2 where the record isn't 16 bytes, then the rest. A refused record hands back the
 // same round.
+#[tactic(auto, using(crate::proofs::Answers::taken, crate::proofs::Answers::taken_not), unfolding(crate::specs::Take::take_refusal))]
 pub fn take(round: Round, bytes: &[u8]) -> Step
     ensures taken { Taken round bytes.now result }
     ensures number { number_of result.answer ≡ take_refusal round bytes.now }
 {
     if !is_held(round) {
-        return round.refuse(17);
+        return round.refuse(Refusal::NotHeld.number());
     }
     round.feed(bytes)
 }

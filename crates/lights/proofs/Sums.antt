@@ -1,12 +1,13 @@
 -- The sum of what lit cards count, card by card; and where one place of six is left out.
 -- Assumes nothing.
-use Prim.Native.Nat.{ℕ, zero, suc, ◌+◌, ◌-◌, ◌*◌, ◌%◌, ◌^◌, ◌≤◌, ◌<◌}
-use mathlib.Core.Path.{◌≡◌}
+use Prim.Native.Nat.{ℕ, zero, suc, ◌+◌, ◌-◌, ◌*◌, ◌%◌, ◌^◌, ◌≤◌, ◌<◌, min}
+use mathlib.Core.Path.{◌≡◌, refl, ap, ◌∙◌}
 use mathlib.Core.Bool.{Bool, ◌&&◌}
 use mathlib.Core.List.{List, [], ◌∷◌}
 use native.Mathlib.Omega.{arith}
 use lib.Dec.{ltb}
-use lib.ListN.{length}
+use lib.ListN.{length, get_or, take, drop, drop_of_length-le}
+use lib.Seq.{drop-cons}
 use Rattle.counting.specs.Choose.{one}
 use Rattle.counting.proofs.Tests.{one_le}
 use Rattle.cards.specs.Card.{rank}
@@ -17,18 +18,36 @@ use Rattle.lights.specs.declared.Light.{Light}
 use Rattle.lights.specs.Lit.{makes, lit, lit_sum, lit_of, places, without}
 
 module _ (f : ℕ → Bool) where
-  pub five-sum : (a b c d e : ℕ) {p q r s t : ℕ} → p ≡ 1 * one (f a) → q ≡ 2 * one (f b) → r ≡ 4 * one (f c) → s ≡ 8 * one (f d) → t ≡ 16 * one (f e)
-      → p + (q + (r + (s + t))) ≡ lit_sum f places (a ∷ b ∷ c ∷ d ∷ e ∷ [])
+  -- the card at place i counts 2^i
+  pub lit_step : (cs : List ℕ) (i : ℕ) → i < length cs → i < 6
+      → lit_sum f (drop i places) (drop i cs) ≡ 2 ^ i * one (f (get_or cs i 0)) + lit_sum f (drop (i + 1) places) (drop (i + 1) cs)
   unfolding lit_sum
-  five-sum a b c d e pa qb rc sd te = omega arith
+  lit_step cs zero h l = ap (lit_sum f (drop 0 places)) (drop-cons cs 0 0 h)
+  lit_step cs (suc zero) h l = ap (lit_sum f (drop 1 places)) (drop-cons cs 1 0 h)
+  lit_step cs (suc (suc zero)) h l = ap (lit_sum f (drop 2 places)) (drop-cons cs 2 0 h)
+  lit_step cs (suc (suc (suc zero))) h l = ap (lit_sum f (drop 3 places)) (drop-cons cs 3 0 h)
+  lit_step cs (suc (suc (suc (suc zero)))) h l = ap (lit_sum f (drop 4 places)) (drop-cons cs 4 0 h)
+  lit_step cs (suc (suc (suc (suc (suc zero))))) h l = ap (lit_sum f (drop 5 places)) (drop-cons cs 5 0 h)
+  lit_step cs (suc (suc (suc (suc (suc (suc k)))))) h l = absurd (omega arith)
 
-  pub three_sum : (a b c : ℕ) {p q r : ℕ} → p ≡ 1 * one (f a) → q ≡ 2 * one (f b) → r ≡ 4 * one (f c) → p + (q + r) ≡ lit_sum f places (a ∷ b ∷ c ∷ [])
+  lit_none : (ws : List ℕ) → lit_sum f ws [] ≡ 0
   unfolding lit_sum
-  three_sum a b c pa qb rc = omega arith
+  lit_none [] = refl
+  lit_none (w ∷ ws) = refl
 
-  pub two-sum : (a b : ℕ) {p q : ℕ} → p ≡ 1 * one (f a) → q ≡ 2 * one (f b) → p + q ≡ lit_sum f places (a ∷ b ∷ [])
+  pub lit_end : (cs : List ℕ) (i : ℕ) → length cs ≤ i → lit_sum f (drop i places) (drop i cs) ≡ 0
   unfolding lit_sum
-  two-sum a b pa qb = omega arith
+  lit_end cs i h = let none : drop i cs ≡ [] = rw drop_of_length-le in ap (lit_sum f (drop i places)) none ∙ lit_none (drop i places)
+
+  -- as many cards count as there are places
+  pub lit_few : (cs ws : List ℕ) (n : ℕ) → n ≡ min (length cs) (length ws) → lit_sum f ws (take n cs) ≡ lit_sum f ws cs
+  unfolding lit_sum
+  lit_few [] ws zero h = refl
+  lit_few [] ws (suc n) h = refl
+  lit_few (c ∷ cs) [] zero h = refl
+  lit_few (c ∷ cs) [] (suc n) h = refl
+  lit_few (c ∷ cs) (w ∷ ws) zero h = absurd (omega arith)
+  lit_few (c ∷ cs) (w ∷ ws) (suc n) h = rw (lit_few cs ws n (omega arith))
 
   -- five cards at the places of six but for the one at out
   module _ (a b c d e own : ℕ) (sum : own ≡ lit_sum f places (a ∷ b ∷ c ∷ d ∷ e ∷ [])) where

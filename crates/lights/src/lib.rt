@@ -1,13 +1,13 @@
 // Which cards of a hand are lit: those that make its name.
 //
 // What a hand is called says which of its ranks make the name (Light), and a card is lit where its rank does. The lit cards are one number, the sum of what their places
-// count: 1, 2, 4, .. for the first, second, third card. ranks_of gives the ranks in a word (crate words), and sum5, sum3 and sum2 the number of a hand's cards that have one
+// count: 1, 2, 4, .. for the first, second, third card. ranks_of gives the ranks in a word (crate words), and sum the number of a hand's cards that have one
 // of them; they answer for any bytes, of which none above 51 is lit, and copy no hand. That they are two calls keeps each small enough for a caller's own code.
 // specs/Lit.antt has the definitions.
 
 #![tactic(auto)]
 
-ghost use Rattle.std.specs.Prelude.{◌≡◌, Bool, ◌&&◌, [], ◌∷◌, ℕ, ◌*◌, ◌≤◌, ltb};
+ghost use Rattle.std.specs.Prelude.{◌≡◌, Bool, ◌&&◌, [], ◌∷◌, ℕ, ◌*◌, ◌^◌, ◌≤◌, ◌<◌, length, ltb};
 ghost use Rattle.counting.specs.Choose.{one};
 ghost use Rattle.cards.specs.Card.{rank};
 ghost use Rattle.words.specs.Word.{word, Says};
@@ -52,27 +52,19 @@ fn added(ranks: u64, card: u8, counts: u8) -> u8
     0
 }
 
-// Of five, three and two cards, those that have one of these ranks.
-pub fn sum5(ranks: u64, a: u8, b: u8, c: u8, d: u8, e: u8) -> u8
-    ensures most { result ≤ 31 }
-    ensures sum { (f : ℕ → Bool) → ranks ≡ word (λ k. one (f k)) → result ≡ lit_sum (λ x. ltb (rank x) 13 && f (rank x)) places (a ∷ b ∷ c ∷ d ∷ e ∷ []) }
+// Of up to six cards, those that have one of these ranks.
+pub fn sum(ranks: u64, cards: &[u8]) -> u8
+    ensures most { result < 2 ^ length cards.now }
+    ensures sum { (f : ℕ → Bool) → ranks ≡ word (λ k. one (f k)) → result ≡ lit_sum (λ x. ltb (rank x) 13 && f (rank x)) places cards.now }
 {
-    added(ranks, a, 1)
-        + (added(ranks, b, 2) + (added(ranks, c, 4) + (added(ranks, d, 8) + added(ranks, e, 16))))
-}
-
-pub fn sum3(ranks: u64, a: u8, b: u8, c: u8) -> u8
-    ensures most { result ≤ 7 }
-    ensures sum { (f : ℕ → Bool) → ranks ≡ word (λ k. one (f k)) → result ≡ lit_sum (λ x. ltb (rank x) 13 && f (rank x)) places (a ∷ b ∷ c ∷ []) }
-{
-    added(ranks, a, 1) + (added(ranks, b, 2) + added(ranks, c, 4))
-}
-
-pub fn sum2(ranks: u64, a: u8, b: u8) -> u8
-    ensures most { result ≤ 3 }
-    ensures sum { (f : ℕ → Bool) → ranks ≡ word (λ k. one (f k)) → result ≡ lit_sum (λ x. ltb (rank x) 13 && f (rank x)) places (a ∷ b ∷ []) }
-{
-    added(ranks, a, 1) + added(ranks, b, 2)
+    let six = &cards[..cards.len().min(6)];
+    let mut sum = 0;
+    let mut place = 1;
+    for card in six {
+        sum += added(ranks, *card, place);
+        place *= 2;
+    }
+    sum
 }
 
 // Five cards that lie at the places of six but for the one at `out`: from there on each counts twice as much.

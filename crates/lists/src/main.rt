@@ -15,15 +15,14 @@
 
 #![tactic(auto)]
 
-ghost use Rattle.std.specs.Prelude.{◌≤◌};
-
+use causes::Refusal;
 use filing::rewrite_file;
-use pipes::{Outcome, called, end, print, read_all, tell};
+use pipes::{Fault, Outcome, called, end, print, read_all, tell};
 use reading::read_file;
 use round::Round;
-use settlement::{FileSettlement, Settlement, settle, settle_file};
-use text::{put_bytes, put_line, put_list, put_named};
-use writing::{WriteAnswer, write_round};
+use settlement::{Faulty, Paid, settle, settle_file};
+use text::Page;
+use writing::write_round;
 
 const NAME: [u8; 5] = *b"lists";
 
@@ -40,171 +39,97 @@ const BYTES: usize = 209;
 
 const BYTE_BEFORE: u8 = 255;
 
-// The lengths that are tried.
-fn long(k: u8) -> usize
-    ensures { result ≤ 36 }
-{
-    match k {
-        0 => 28,
-        1 => 34,
-        2 => 35,
-        _ => 36,
-    }
-}
+// The lengths of a list that are tried, and those of a room.
+const LENGTHS: [(usize, usize); 4] = [(28, 0), (34, 207), (35, 208), (36, 209)];
 
-fn room_long(k: u8) -> usize
-    ensures { result ≤ 209 }
-{
-    match k {
-        0 => 0,
-        1 => 207,
-        2 => 208,
-        _ => 209,
-    }
-}
-
-fn unlike(n: u64) -> u64
-    ensures { result ≤ 1 }
-{
-    if n != BEFORE {
-        return 1;
-    }
-    0
-}
-
-fn changed(list: [u64; ROOM]) -> u64 {
-    let mut changed = 0;
-    for i in 0..ROOM {
-        changed += unlike(list[i]);
-    }
-    changed
-}
-
-fn unlike_byte(b: u8) -> u64
-    ensures { result ≤ 1 }
-{
-    if b != BYTE_BEFORE {
-        return 1;
-    }
-    0
-}
-
-fn changed_bytes(room: [u8; BYTES]) -> u64 {
-    let mut changed = 0;
-    for i in 0..BYTES {
-        changed += unlike_byte(room[i]);
-    }
-    changed
+// How many of what was lent are no longer what stood there before.
+fn changed<T: PartialEq>(lent: &[T], before: &T) -> usize {
+    lent.iter().filter(|now| *now != before).count()
 }
 
 // A line's beginning: what was settled or written, and how long the list or the room was.
-fn put_question(line: &mut [u8], what: &[u8], lent: &[u8], n: usize) -> usize {
-    let asked = put_bytes(line, 0, what);
-    let told = put_bytes(line, asked, lent);
-    put_named(line, told, b" of ", n as u64)
+fn put_question(page: &mut Page<'_>, what: &[u8], lent: &[u8], n: usize) {
+    page.put(what);
+    page.put(lent);
+    page.put_named(b" of ", n);
 }
 
-fn put_refused(line: &mut [u8], at: usize, number: u8, place: usize) -> usize {
-    let refused = put_named(line, at, b": refused ", number as u64);
-    put_named(line, refused, b" at ", place as u64)
-}
-
-fn put_file(line: &mut [u8], at: usize, answer: FileSettlement) -> usize {
+fn put_file(page: &mut Page<'_>, answer: Result<Paid, Faulty>) {
     match answer {
-        FileSettlement::Paid { full, paid } => put_list(line, at, b": pool", &[full, paid]),
-        FileSettlement::Refused { number, place } => put_refused(line, at, number, place),
+        Ok(pool) => page.put_list(b": pool", &[pool.full, pool.paid]),
+        Err(faulty) => {
+            page.put_named(b": refused ", faulty.number);
+            page.put_named(b" at ", faulty.place);
+        }
     }
 }
 
-fn put_round(line: &mut [u8], at: usize, answer: Settlement) -> usize {
+fn put_round(page: &mut Page<'_>, answer: Result<Paid, Refusal>) {
     match answer {
-        Settlement::Paid { full, paid } => put_list(line, at, b": pool", &[full, paid]),
-        Settlement::Refused(number) => put_named(line, at, b": refused ", number as u64),
+        Ok(pool) => page.put_list(b": pool", &[pool.full, pool.paid]),
+        Err(refusal) => page.put_named(b": refused ", refusal.number()),
     }
 }
 
-fn put_written(line: &mut [u8], at: usize, answer: WriteAnswer) -> usize {
+fn put_written(page: &mut Page<'_>, answer: Result<(), Refusal>) {
     match answer {
-        WriteAnswer::Written => put_bytes(line, at, b": written"),
-        WriteAnswer::Refused(number) => put_named(line, at, b": refused ", number as u64),
+        Ok(()) => page.put(b": written"),
+        Err(refusal) => page.put_named(b": refused ", refusal.number()),
     }
 }
 
-// Ends the line with how many numbers of the list were changed, and writes it.
-fn write_changed(rt: &(impl Print + Eprint), mut line: [u8; 128], at: usize, changed: u64) -> bool {
-    let last = put_line(&mut line, at, b", changed", &[changed]);
-    print(rt, &NAME, &line, last)
+fn ask_file(rt: &(impl Print + Eprint), what: &[u8], file: &[u8], n: usize) -> Result<(), Fault> {
+    let mut list = [BEFORE; ROOM];
+    let answer = settle_file(file, &mut list[..n.min(ROOM)]);
+    let mut line = [0u8; 128];
+    let mut page = Page::new(&mut line);
+    put_question(&mut page, what, b", list", n);
+    put_file(&mut page, answer);
+    page.put_line(b", changed", &[changed(&list, &BEFORE)]);
+    print(rt, &NAME, page.text())
 }
 
-fn write_file(
+fn ask_round(rt: &(impl Print + Eprint), what: &[u8], round: Round, n: usize) -> Result<(), Fault> {
+    let mut list = [BEFORE; ROOM];
+    let answer = settle(round, &mut list[..n.min(ROOM)]);
+    let mut line = [0u8; 128];
+    let mut page = Page::new(&mut line);
+    put_question(&mut page, what, b", list", n);
+    put_round(&mut page, answer);
+    page.put_line(b", changed", &[changed(&list, &BEFORE)]);
+    print(rt, &NAME, page.text())
+}
+
+fn ask_rewrite(
     rt: &(impl Print + Eprint),
     what: &[u8],
+    file: &[u8],
     n: usize,
-    answer: FileSettlement,
-    changed: u64,
-) -> bool {
-    let mut line = [0u8; 128];
-    let asked = put_question(&mut line, what, b", list", n);
-    let answered = put_file(&mut line, asked, answer);
-    write_changed(rt, line, answered, changed)
+) -> Result<(), Fault> {
+    let mut room = [BYTE_BEFORE; BYTES];
+    let answer = rewrite_file(file, &mut room[..n.min(BYTES)]);
+    write_written(rt, what, n, answer, &room)
 }
 
-fn write_held(
-    rt: &(impl Print + Eprint),
-    what: &[u8],
-    n: usize,
-    answer: Settlement,
-    changed: u64,
-) -> bool {
-    let mut line = [0u8; 128];
-    let asked = put_question(&mut line, what, b", list", n);
-    let answered = put_round(&mut line, asked, answer);
-    write_changed(rt, line, answered, changed)
+fn ask_write(rt: &(impl Print + Eprint), what: &[u8], round: Round, n: usize) -> Result<(), Fault> {
+    let mut room = [BYTE_BEFORE; BYTES];
+    let answer = write_round(round, &mut room[..n.min(BYTES)]);
+    write_written(rt, what, n, answer, &room)
 }
 
 fn write_written(
     rt: &(impl Print + Eprint),
     what: &[u8],
     n: usize,
-    answer: WriteAnswer,
-    changed: u64,
-) -> bool {
+    answer: Result<(), Refusal>,
+    room: &[u8],
+) -> Result<(), Fault> {
     let mut line = [0u8; 128];
-    let asked = put_question(&mut line, what, b", room", n);
-    let answered = put_written(&mut line, asked, answer);
-    write_changed(rt, line, answered, changed)
-}
-
-fn ask_file(rt: &(impl Print + Eprint), what: &[u8], file: &[u8], n: usize) -> bool
-    requires { n ≤ 36 }
-{
-    let mut list = [BEFORE; ROOM];
-    let answer = settle_file(file, &mut list[0..n]);
-    write_file(rt, what, n, answer, changed(list))
-}
-
-fn ask_round(rt: &(impl Print + Eprint), what: &[u8], round: Round, n: usize) -> bool
-    requires { n ≤ 36 }
-{
-    let mut list = [BEFORE; ROOM];
-    let answer = settle(round, &mut list[0..n]);
-    write_held(rt, what, n, answer, changed(list))
-}
-
-fn ask_rewrite(rt: &(impl Print + Eprint), what: &[u8], file: &[u8], n: usize) -> bool
-    requires { n ≤ 209 }
-{
-    let mut room = [BYTE_BEFORE; BYTES];
-    let answer = rewrite_file(file, &mut room[0..n]);
-    write_written(rt, what, n, answer, changed_bytes(room))
-}
-
-fn ask_write(rt: &(impl Print + Eprint), what: &[u8], round: Round, n: usize) -> bool
-    requires { n ≤ 209 }
-{
-    let mut room = [BYTE_BEFORE; BYTES];
-    let answer = write_round(round, &mut room[0..n]);
-    write_written(rt, what, n, answer, changed_bytes(room))
+    let mut page = Page::new(&mut line);
+    put_question(&mut page, what, b", room", n);
+    put_written(&mut page, answer);
+    page.put_line(b", changed", &[changed(room, &BYTE_BEFORE)]);
+    print(rt, &NAME, page.text())
 }
 
 fn with_a_fifth_part(mut round: Round) -> Round {
@@ -212,107 +137,56 @@ fn with_a_fifth_part(mut round: Round) -> Round {
     round
 }
 
-fn ask_files(rt: &(impl Print + Eprint), file: [u8; WHOLE], n: usize) -> bool
-    requires { n ≤ 36 }
-{
-    if !ask_file(rt, b"file", &file, n) {
-        return false;
-    }
-    if !ask_file(rt, b"odd file", &file[0..207], n) {
-        return false;
-    }
-    ask_file(rt, b"empty file", &file[0..0], n)
+fn ask_files(rt: &(impl Print + Eprint), file: &[u8; WHOLE], n: usize) -> Result<(), Fault> {
+    ask_file(rt, b"file", file, n)?;
+    ask_file(rt, b"odd file", &file[..207], n)?;
+    ask_file(rt, b"empty file", &[], n)
 }
 
-// The round that a file leads to.
-fn ask_read(rt: &(impl Print + Eprint), what: &[u8], file: &[u8], n: usize) -> bool
-    requires { n ≤ 36 }
-{
-    ask_round(rt, what, read_file(file).round, n)
+// The rounds that files lead to.
+fn ask_rounds(rt: &(impl Print + Eprint), file: &[u8; WHOLE], n: usize) -> Result<(), Fault> {
+    let round = read_file(file).round;
+    let fresh = read_file(&[]).round;
+    ask_round(rt, b"round", round, n)?;
+    ask_round(rt, b"fresh round", fresh, n)?;
+    ask_round(rt, b"false round", with_a_fifth_part(round), n)
 }
 
-fn ask_changed(rt: &(impl Print + Eprint), what: &[u8], file: &[u8], n: usize) -> bool
-    requires { n ≤ 36 }
-{
-    ask_round(rt, what, with_a_fifth_part(read_file(file).round), n)
+fn write_files(rt: &(impl Print + Eprint), file: &[u8; WHOLE], n: usize) -> Result<(), Fault> {
+    ask_rewrite(rt, b"file", file, n)?;
+    ask_rewrite(rt, b"odd file", &file[..207], n)?;
+    ask_rewrite(rt, b"empty file", &[], n)
 }
 
-fn ask_rounds(rt: &(impl Print + Eprint), file: [u8; WHOLE], n: usize) -> bool
-    requires { n ≤ 36 }
-{
-    if !ask_read(rt, b"round", &file, n) {
-        return false;
-    }
-    if !ask_read(rt, b"fresh round", &file[0..0], n) {
-        return false;
-    }
-    ask_changed(rt, b"false round", &file, n)
-}
-
-fn write_files(rt: &(impl Print + Eprint), file: [u8; WHOLE], n: usize) -> bool
-    requires { n ≤ 209 }
-{
-    if !ask_rewrite(rt, b"file", &file, n) {
-        return false;
-    }
-    if !ask_rewrite(rt, b"odd file", &file[0..207], n) {
-        return false;
-    }
-    ask_rewrite(rt, b"empty file", &file[0..0], n)
-}
-
-fn write_rounds(rt: &(impl Print + Eprint), file: [u8; WHOLE], n: usize) -> bool
-    requires { n ≤ 209 }
-{
-    let round = read_file(&file).round;
-    if !ask_write(rt, b"round", round, n) {
-        return false;
-    }
-    if !ask_write(rt, b"fresh round", Round::fresh(), n) {
-        return false;
-    }
+fn write_rounds(rt: &(impl Print + Eprint), file: &[u8; WHOLE], n: usize) -> Result<(), Fault> {
+    let round = read_file(file).round;
+    ask_write(rt, b"round", round, n)?;
+    ask_write(rt, b"fresh round", Round::fresh(), n)?;
     ask_write(rt, b"false round", with_a_fifth_part(round), n)
 }
 
-// The k-th length of a list, and of a room.
-fn ask_turn(rt: &(impl Print + Eprint), file: [u8; WHOLE], k: u8) -> bool {
-    if !ask_files(rt, file, long(k)) {
-        return false;
+fn ask_all(rt: &(impl Print + Eprint), file: &[u8; WHOLE]) -> Result<Outcome, Fault> {
+    for (list, room) in LENGTHS {
+        ask_files(rt, file, list)?;
+        ask_rounds(rt, file, list)?;
+        write_files(rt, file, room)?;
+        write_rounds(rt, file, room)?;
     }
-    if !ask_rounds(rt, file, long(k)) {
-        return false;
-    }
-    if !write_files(rt, file, room_long(k)) {
-        return false;
-    }
-    write_rounds(rt, file, room_long(k))
+    Ok(Outcome::Done)
 }
 
-fn ask_all(rt: &(impl Print + Eprint), file: [u8; WHOLE]) -> Outcome {
-    for k in 0..4 {
-        if !ask_turn(rt, file, k) {
-            return Outcome::Fault;
-        }
-    }
-    Outcome::Done
-}
-
-fn run(rt: &(impl Input + Print + Eprint)) -> Outcome {
+fn run(rt: &(impl Input + Print + Eprint)) -> Result<Outcome, Fault> {
     let mut file = [0u8; WHOLE];
-    let got = read_all(rt, &NAME, &mut file, b"reads a file of 208 bytes");
-    if got.failed {
-        return Outcome::Fault;
-    }
-    if got.bytes < WHOLE {
+    let bytes = read_all(rt, &NAME, &mut file, b"reads a file of 208 bytes")?;
+    if bytes < WHOLE {
         tell(rt, &NAME, b"reads a file of 208 bytes");
-        return Outcome::Fault;
+        return Err(Fault);
     }
-    ask_all(rt, file)
+    ask_all(rt, &file)
 }
 
 fn main(rt: HostRuntime) {
-    let call = called(&rt, &NAME, true);
-    if call.sound {
+    if let Some(call) = called(&rt, &NAME, true) {
         end(&rt, &NAME, call, run(&rt));
     }
 }

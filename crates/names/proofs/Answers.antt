@@ -1,71 +1,55 @@
--- An answer by its number: refused where that is not 0, and named where it is; and what the entries promise of it.
+-- What the entries promise of an answer, by the number of the hand's refusal: it is refused where that is not 0, and named where it is.
 -- Assumes nothing.
 use Prim.Native.Nat.{ℕ}
 use mathlib.Core.Path.{◌≡◌, refl, sym, ap, ◌∙◌}
-use mathlib.Core.Bool.{Bool}
+use mathlib.Core.Bool.{Bool, true, false}
 use mathlib.Core.List.{List, [], ◌∷◌}
-use lib.ListN.{get_or}
-use borrow.Author.Tests.{eq-eqb, ne_eqb}
-use Rattle.std.specs.Prelude.{if◌then◌else◌}
+use native.Mathlib.Omega.{arith}
+use lib.Dec.{eqb}
+use lib.ListN.{length, get_or}
+use borrow.Author.Tests.{eqb-true, eq-eqb, ne_eqb}
+use Rattle.std.specs.Prelude.{Result, Ok, Err, IsErrAnd, if◌then◌else◌}
+use Rattle.std.proofs.lemmas.Result.{err_from_is_err_and}
+use Rattle.causes.specs.declared.Refusal.{Refusal}
+use Rattle.causes.specs.Refusal.{number, cause, number_of, answered}
+use Rattle.causes.proofs.Numbers.{cause-number}
 use Rattle.counting.specs.Choose.{unless_refused}
 use Rattle.counting.specs.Count.{each}
-use Rattle.counting.proofs.Answers.{by_number, by_values}
 use Rattle.counting.proofs.Gathers.{each_of}
 use Rattle.hands.specs.Hand.{hand_refusal}
-use Rattle.hands.proofs.Refusals.{not_refused}
-use Rattle.names.specs.declared.FiveAnswer.{FiveAnswer}
-use Rattle.names.specs.declared.BoardAnswer.{BoardAnswer}
-use Rattle.names.specs.declared.PocketAnswer.{PocketAnswer}
-use Rattle.names.specs.declared.LoAnswer.{LoAnswer}
-use Rattle.names.specs.Five.{name_five, answer_five, five_place, five_number, five_values}
-use Rattle.names.specs.Board.{name_board, answer_board, board_place, board_number, board_values}
-use Rattle.names.specs.Pocket.{name_pocket, answer_pocket, pocket_place, pocket_number, pocket_values}
-use Rattle.names.specs.Lo.{name_lo, answer_lo, lo_high, lo_number, lo_values}
-use Rattle.names.specs.Answer.{answer}
+use Rattle.names.specs.Answer.{values_of}
 
-module _ {Name Answer : Type 0} (named : Name → Answer) (refused : ℕ → Answer) (name : Name) where
-  pub is_refused : (n m : ℕ) → n ≡ m → (n ≡ 0 → ⊥) → refused n ≡ answer named refused m name
-  unfolding answer
-  is_refused n m e d = rw (← e) (simp (ne_eqb n 0 d))
+-- no refusal has the number 0: the refusal of 0 has another
+some_number : (refusal : Refusal) → number refusal ≡ 0 → ⊥
+some_number refusal e = let same : number (cause 0) ≡ 0 = ap (λ n. number (cause n)) (sym e) ∙ ap number (cause-number refusal) ∙ e in omega arith
 
-  pub is_named : (n m : ℕ) → n ≡ m → n ≡ 0 → (given : Name) → given ≡ name → named given ≡ answer named refused m name
-  unfolding answer
-  is_named n m e z given same = rw (← e) (simp (eq-eqb n 0 z, same))
+-- which answer r is, its number and its values, for cards that have this name
+abbrev pub Promised : {Name : Type 0} → (Name → ℕ) → ℕ → Name → Result Name Refusal → Type 0
+Promised place n name r = record { answer : r ≡ answered n name; number : number_of r ≡ n; values : values_of place r ≡ unless_refused n (place name ∷ []) }
 
--- Named by its numbers: cards that are not refused are as many as were asked for, and a list of n is the n numbers in it.
-pub is_named_by : {Name Answer : Type 0} (named : Name → Answer) (refused : ℕ → Answer) (name : List ℕ → Name) (n : ℕ) (cs : List ℕ) (refusal : ℕ)
-    → refusal ≡ hand_refusal n cs → refusal ≡ 0 → (given : Name) → given ≡ name (each n (λ k. get_or cs k 0)) → named given ≡ answer named refused (hand_refusal n cs) (name cs)
-is_named_by named refused name n cs refusal e z given same =
-    is_named named refused (name cs) refusal (hand_refusal n cs) e z given (same ∙ ap name (sym (each_of cs n (not_refused n cs (sym e ∙ z)).0)))
+module _ {Name : Type 0} (place : Name → ℕ) where
+  pub refused : (n : ℕ) (name : Name) (r : Result Name Refusal) (refusal : Refusal) → IsErrAnd r (λ x. x ≡ refusal) → number refusal ≡ n → Promised place n name r
+  unfolding answered unless_refused
+  refused n name r refusal is e =
+      let p = err_from_is_err_and r is in
+      let some : (n ≡ 0 → ⊥) = λ z. some_number refusal (e ∙ z) in
+      let same : cause n ≡ refusal = ap cause (sym e) ∙ cause-number refusal in
+      rw (p.1, p.2) (record { answer = simp (ne_eqb n 0 some, same); number = e; values = simp (ne_eqb n 0 some) })
 
--- what an entry promises of its answer r: which it is, its number, and its values
-abbrev pub Promised : {Answer : Type 0} → (Answer → ℕ) → (Answer → List ℕ) → ℕ → ℕ → Answer → Answer → Type 0
-Promised number_of values_of n value a r = record { answer : r ≡ a; number : number_of r ≡ n; values : values_of r ≡ unless_refused n (value ∷ []) }
+  -- named by its numbers: a list of n is the n numbers in it
+  pub named : (name : List ℕ → Name) (n : ℕ) (cs : List ℕ) → 0 ≡ hand_refusal n cs → length cs ≡ n → (given : Name) → given ≡ name (each n (λ k. get_or cs k 0))
+      → Promised place (hand_refusal n cs) (name cs) (Ok given)
+  unfolding answered unless_refused
+  named name n cs sound long given same =
+      let whole : given ≡ name cs = same ∙ ap name (sym (each_of cs n long)) in
+      let none = eq-eqb (hand_refusal n cs) 0 (sym sound) in
+      record { answer = simp (none, whole); number = sound; values = simp (none, whole) }
 
-pub promised : {Name Answer : Type 0} (named : Name → Answer) (refused : ℕ → Answer) (number : Answer → ℕ) (values : Answer → List ℕ) (n : ℕ) (name : Name) (value : ℕ)
-    → number (named name) ≡ 0 → number (refused n) ≡ n → values (named name) ≡ value ∷ [] → values (refused n) ≡ []
-    → (r : Answer) → r ≡ answer named refused n name → Promised number values n value (answer named refused n name) r
-unfolding answer
-promised {Name} {Answer} named refused number values n name value none some told untold r e =
-    let by : Bool → Answer = λ b. if b then named name else refused n in
-    record { answer = e; number = ap number e ∙ by_number n by number none some; values = ap values e ∙ by_values n by values (value ∷ []) told untold }
-
-pub five_promised : (cs : List ℕ) (r : FiveAnswer) → r ≡ answer_five cs → Promised five_number five_values (hand_refusal 5 cs) (five_place (name_five cs)) (answer_five cs) r
-unfolding answer_five
-five_promised cs =
-    promised FiveAnswer.Name FiveAnswer.Refused five_number five_values (hand_refusal 5 cs) (name_five cs) (five_place (name_five cs)) refl refl refl refl
-
-pub board_promised : (cs : List ℕ) (r : BoardAnswer) → r ≡ answer_board cs → Promised board_number board_values (hand_refusal 3 cs) (board_place (name_board cs)) (answer_board cs) r
-unfolding answer_board
-board_promised cs =
-    promised BoardAnswer.Name BoardAnswer.Refused board_number board_values (hand_refusal 3 cs) (name_board cs) (board_place (name_board cs)) refl refl refl refl
-
-pub pocket_promised : (cs : List ℕ) (r : PocketAnswer) → r ≡ answer_pocket cs → Promised pocket_number pocket_values (hand_refusal 2 cs) (pocket_place (name_pocket cs)) (answer_pocket cs) r
-unfolding answer_pocket
-pocket_promised cs =
-    promised PocketAnswer.Name PocketAnswer.Refused pocket_number pocket_values (hand_refusal 2 cs) (name_pocket cs) (pocket_place (name_pocket cs)) refl refl refl refl
-
-pub lo_promised : (cs : List ℕ) (r : LoAnswer) → r ≡ answer_lo cs → Promised lo_number lo_values (hand_refusal 5 cs) (lo_high (name_lo cs)) (answer_lo cs) r
-unfolding answer_lo
-lo_promised cs =
-    promised LoAnswer.Name LoAnswer.Refused lo_number lo_values (hand_refusal 5 cs) (name_lo cs) (lo_high (name_lo cs)) refl refl refl refl
+-- one answer to cards of one name, and to cards that are refused, whatever their name
+pub answered_same : {Name : Type 0} {x y : Name} (n : ℕ) → (n ≡ 0 → x ≡ y) → answered n x ≡ answered n y
+unfolding answered
+answered_same {Name} {x} {y} n same = go (eqb n 0) refl
+  where
+    go : (b : Bool) → eqb n 0 ≡ b → (if b then Ok x else Err (cause n)) ≡ (if b then Ok y else Err (cause n))
+    go true e = ap Ok (same (eqb-true n 0 e))
+    go false e = refl

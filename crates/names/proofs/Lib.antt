@@ -3,3 +3,4 @@ pub mod Fives
 pub mod Los
 pub mod Orders
 pub mod Places
+pub mod Few

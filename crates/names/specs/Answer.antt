@@ -1,7 +1,14 @@
--- What the entries answer.
+-- What an answer gives: a number of its name, and nothing where it is refused. (place is what gives a name's number.)
 -- Assumes nothing.
-use Rattle.std.specs.Prelude.{ℕ, eqb, if◌then◌else◌}
+use Rattle.std.specs.Prelude.{ℕ, List, [], ◌∷◌, Result, Ok, Err}
+use Rattle.causes.specs.declared.Refusal.{Refusal}
 
--- Refused with number n, or the name where n is 0. (The first two arguments are the cases of the answer's type.)
-unfoldable pub answer : {Name Answer : Type 0} → (Name → Answer) → (ℕ → Answer) → ℕ → Name → Answer
-answer named refused n name = if eqb n 0 then named name else refused n
+-- an answer's values: the name's number; a refusal has none
+abbrev pub values_of : {Name : Type 0} → (Name → ℕ) → Result Name Refusal → List ℕ
+values_of place (Ok name) = place name ∷ []
+values_of place (Err refusal) = []
+
+-- what is told of a name to one who lends a number for it; of a refusal nothing, and the number is what it was
+abbrev pub told : {Name : Type 0} → (Name → ℕ) → Result Name Refusal → ℕ → ℕ
+told place (Ok name) was = place name
+told place (Err refusal) was = was

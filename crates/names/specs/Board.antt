@@ -1,12 +1,11 @@
 -- The name of the three cards of the board.
 -- Assumes nothing.
-use Rattle.std.specs.Prelude.{ℕ, ◌&&◌, List, [], ◌∷◌, eqb, if◌then◌else◌}
+use Rattle.std.specs.Prelude.{ℕ, ◌&&◌, List, Result, eqb, if◌then◌else◌}
+use Rattle.causes.specs.declared.Refusal.{Refusal}
+use Rattle.causes.specs.Refusal.{answered}
 use Rattle.hands.specs.Hand.{of_rank, of_suit, of_a_kind, flush, run, straight, hand_refusal}
-use Rattle.names.specs.Answer.{answer}
 use Rattle.names.specs.declared.BoardName.{BoardName}
 use Rattle.names.specs.declared.BoardName.TheVariants.{Royal, StraightFlush, ThreeOfAKind, Straight, Flush, Pair, Other}
-use Rattle.names.specs.declared.BoardAnswer.{BoardAnswer}
-use Rattle.names.specs.declared.BoardAnswer.TheVariants.{Name, Refused}
 
 -- Board, three cards: royal (Q-K-A suited), straight flush, three of a kind, straight, flush, pair, other. (The run of three from 12 is
 -- Q-K-A.)
@@ -24,8 +23,8 @@ unfoldable pub name_board : List ℕ → BoardName
 name_board cs = board_by (of_rank cs) (of_suit cs)
 
 -- what is answered on any cards
-unfoldable pub answer_board : List ℕ → BoardAnswer
-answer_board cs = answer Name Refused (hand_refusal 3 cs) (name_board cs)
+unfoldable pub answer_board : List ℕ → Result BoardName Refusal
+answer_board cs = answered (hand_refusal 3 cs) (name_board cs)
 
 -- a name's place in document 01's list, from 0
 abbrev pub board_place : BoardName → ℕ
@@ -36,13 +35,3 @@ board_place Straight = 3
 board_place Flush = 4
 board_place Pair = 5
 board_place Other = 6
-
--- this paper's number for each answer: the refusal's, and 0 for a name
-abbrev pub board_number : BoardAnswer → ℕ
-board_number (Name name) = 0
-board_number (Refused number) = number
-
--- and its values: a name's place; a refusal has none
-abbrev pub board_values : BoardAnswer → List ℕ
-board_values (Name name) = board_place name ∷ []
-board_values (Refused number) = []

@@ -1,13 +1,12 @@
 -- The name of five cards.
 -- Assumes nothing.
-use Rattle.std.specs.Prelude.{ℕ, ◌&&◌, List, [], ◌∷◌, eqb, if◌then◌else◌}
+use Rattle.std.specs.Prelude.{ℕ, ◌&&◌, List, Result, eqb, if◌then◌else◌}
+use Rattle.causes.specs.declared.Refusal.{Refusal}
+use Rattle.causes.specs.Refusal.{answered}
 use Rattle.cards.specs.Card.{six, jack}
 use Rattle.hands.specs.Hand.{of_rank, of_suit, kinds, of_a_kind, flush, run, straight, hand_refusal}
-use Rattle.names.specs.Answer.{answer}
 use Rattle.names.specs.declared.FiveName.{FiveName}
 use Rattle.names.specs.declared.FiveName.TheVariants.{RoyalFlush, StraightFlush, FourOfAKind, FullHouse, Flush, Straight, ThreeOfAKind, TwoPair, JacksToAces, SixesToTens, Other}
-use Rattle.names.specs.declared.FiveAnswer.{FiveAnswer}
-use Rattle.names.specs.declared.FiveAnswer.TheVariants.{Name, Refused}
 
 -- Five cards, highest name only. (h: how often each rank occurs; t: how often each suit; the run of five from 10 is 10-J-Q-K-A; the
 -- four ranks from the jack on are J, Q, K and A, and the five from the six on are six to ten.)
@@ -29,8 +28,8 @@ unfoldable pub name_five : List ℕ → FiveName
 name_five cs = five_by (of_rank cs) (of_suit cs)
 
 -- what is answered on any cards
-unfoldable pub answer_five : List ℕ → FiveAnswer
-answer_five cs = answer Name Refused (hand_refusal 5 cs) (name_five cs)
+unfoldable pub answer_five : List ℕ → Result FiveName Refusal
+answer_five cs = answered (hand_refusal 5 cs) (name_five cs)
 
 -- a name's place in document 01's list, from 0
 abbrev pub five_place : FiveName → ℕ
@@ -45,13 +44,3 @@ five_place TwoPair = 7
 five_place JacksToAces = 8
 five_place SixesToTens = 9
 five_place Other = 10
-
--- this paper's number for each answer: the refusal's, and 0 for a name
-abbrev pub five_number : FiveAnswer → ℕ
-five_number (Name name) = 0
-five_number (Refused number) = number
-
--- and its values: a name's place; a refusal has none
-abbrev pub five_values : FiveAnswer → List ℕ
-five_values (Name name) = five_place name ∷ []
-five_values (Refused number) = []

@@ -1,13 +1,12 @@
 -- The name of a seat's two cards.
 -- Assumes nothing.
-use Rattle.std.specs.Prelude.{ℕ, Bool, ◌&&◌, List, [], ◌∷◌, eqb, if◌then◌else◌}
+use Rattle.std.specs.Prelude.{ℕ, Bool, ◌&&◌, List, Result, eqb, if◌then◌else◌}
+use Rattle.causes.specs.declared.Refusal.{Refusal}
+use Rattle.causes.specs.Refusal.{answered}
 use Rattle.cards.specs.Card.{jack, ace}
 use Rattle.hands.specs.Hand.{of_rank, of_suit, kinds, of_a_kind, flush, hand_refusal}
-use Rattle.names.specs.Answer.{answer}
 use Rattle.names.specs.declared.PocketName.{PocketName}
 use Rattle.names.specs.declared.PocketName.TheVariants.{Aces, AceFaceSuited, AceFace, OtherPair, Nothing}
-use Rattle.names.specs.declared.PocketAnswer.{PocketAnswer}
-use Rattle.names.specs.declared.PocketAnswer.TheVariants.{Name, Refused}
 
 -- an ace with K, Q or J
 unfoldable pub ace_face : (ℕ → ℕ) → Bool
@@ -26,8 +25,8 @@ unfoldable pub name_pocket : List ℕ → PocketName
 name_pocket cs = pocket_by (of_rank cs) (of_suit cs)
 
 -- what is answered on any cards
-unfoldable pub answer_pocket : List ℕ → PocketAnswer
-answer_pocket cs = answer Name Refused (hand_refusal 2 cs) (name_pocket cs)
+unfoldable pub answer_pocket : List ℕ → Result PocketName Refusal
+answer_pocket cs = answered (hand_refusal 2 cs) (name_pocket cs)
 
 -- a name's place in document 01's list, from 0
 abbrev pub pocket_place : PocketName → ℕ
@@ -36,13 +35,3 @@ pocket_place AceFaceSuited = 1
 pocket_place AceFace = 2
 pocket_place OtherPair = 3
 pocket_place Nothing = 4
-
--- this paper's number for each answer: the refusal's, and 0 for a name
-abbrev pub pocket_number : PocketAnswer → ℕ
-pocket_number (Name name) = 0
-pocket_number (Refused number) = number
-
--- and its values: a name's place; a refusal has none
-abbrev pub pocket_values : PocketAnswer → List ℕ
-pocket_values (Name name) = pocket_place name ∷ []
-pocket_values (Refused number) = []

@@ -9,7 +9,7 @@ use native.Mathlib.Omega.{arith}
 use lib.Dec.{eqb}
 use lib.ListN.{length}
 use borrow.Author.Tests.{eqb-true, eqb-false}
-use Rattle.std.specs.Prelude.{if◌then◌else◌}
+use Rattle.std.specs.Prelude.{Ok, Err, if◌then◌else◌}
 use Rattle.counting.proofs.Tests.{and_true, both}
 use Rattle.counting.proofs.Gathers.{gather-length}
 use Rattle.round.specs.declared.Round.{Round}
@@ -22,11 +22,10 @@ use Rattle.reading.specs.declared.Reading.{Reading}
 use Rattle.reading.specs.File.{stop, read_by, file_records, read_file}
 use Rattle.reading.proofs.Readings.{read_held}
 use Rattle.results.specs.Results.{results_long}
-use Rattle.settlement.specs.declared.FileSettlement.TheVariants.{Paid, Refused}
-use Rattle.settlement.specs.Settle.{settle_refusal, read_refusal, read_place, read_answer, read_list, file_answer, file_list, file_number}
+use Rattle.settlement.specs.Settle.{faulty_at, settle_refusal, read_refusal, read_place, read_answer, read_list, file_answer, file_list, file_number}
 use Rattle.settlement.proofs.Answers.{file_number_lem}
 use Rattle.older.specs.Records.{says_nothing, all_say_nothing, Older, old_feed, old_read_file}
-use Rattle.older.specs.Amounts.{old_pool, old_amounts, old_results, widened, old_answer, old_file_answer, old_file_results}
+use Rattle.older.specs.Amounts.{old_amounts, old_results, widened, old_paid, old_answer, old_file_answer, old_file_results}
 use Rattle.older.proofs.Records.{same_feed, taken_says, old_number, still_unoffered}
 use Rattle.older.proofs.Amounts.{same_pool, same_results}
 
@@ -104,9 +103,9 @@ unfolding read_answer read_refusal settle_refusal read_place old_answer
 reading_answer w held none = simp (held, same_pool w.round none) (go (eqb w.number 0) refl (is_finished w.round))
   where
     go : (t : Bool) → eqb w.number 0 ≡ t → (f : Bool)
-        → (if not (eqb (if not t then w.number else if not f then 16 else 0) 0) then Refused (if not t then w.number else if not f then 16 else 0) w.place
-        else Paid (old_pool w.round).full (old_pool w.round).paid)
-        ≡ (if not t then Refused w.number w.place else if not f then Refused 16 w.place else Paid (old_pool w.round).full (old_pool w.round).paid)
+        → (if not (eqb (if not t then w.number else if not f then 16 else 0) 0) then Err (faulty_at (if not t then w.number else if not f then 16 else 0) w.place)
+        else Ok (old_paid w.round))
+        ≡ (if not t then Err (faulty_at w.number w.place) else if not f then Err (faulty_at 16 w.place) else Ok (old_paid w.round))
     go true e true = refl
     go true e false = refl
     go false e f = simp e

@@ -1,6 +1,6 @@
 -- The deal and the amounts as they were before All-Six, and what a file was answered.
 -- Assumes nothing.
-use Rattle.std.specs.Prelude.{ℕ, ◌+◌, ◌*◌, Bool, not, ◌&&◌, List, [], ◌∷◌, ◌++◌, eqb, get_or, if◌then◌else◌}
+use Rattle.std.specs.Prelude.{Result, Ok, Err, ℕ, ◌+◌, ◌*◌, Bool, not, ◌&&◌, List, [], ◌∷◌, ◌++◌, eqb, get_or, if◌then◌else◌}
 use Rattle.counting.specs.Count.{gather, each}
 use Rattle.round.specs.declared.Round.{Round}
 use Rattle.round.specs.Order.{is_finished}
@@ -17,8 +17,9 @@ use Rattle.pool.specs.Pool.{pool_of}
 use Rattle.amounts.specs.Base.{base_wager, stays_in}
 use Rattle.results.specs.Results.{maximum}
 use Rattle.reading.specs.declared.Reading.{Reading}
-use Rattle.settlement.specs.declared.FileSettlement.{FileSettlement}
-use Rattle.settlement.specs.declared.FileSettlement.TheVariants.{Paid, Refused}
+use Rattle.settlement.specs.declared.Paid.{Paid}
+use Rattle.settlement.specs.declared.Faulty.{Faulty}
+use Rattle.settlement.specs.Settle.{faulty_at}
 use Rattle.older.specs.Records.{old_read_file}
 
 -- ---- From the top of the deck each playing seat, lowest first, takes two cards together; the next three are the community cards.
@@ -81,13 +82,17 @@ widened (base ∷ board ∷ pocket ∷ []) = []
 
 -- ---- what a file was answered, with a results list as long as it must be
 
-unfoldable pub old_answer : Reading → FileSettlement
-old_answer w =
-    if not (eqb w.number 0) then Refused w.number w.place
-    else if not (is_finished w.round) then Refused 16 w.place
-    else Paid (old_pool w.round).full (old_pool w.round).paid
+-- the pool in dollars, full and as paid
+abbrev pub old_paid : Round → Paid
+old_paid r = record { full = (old_pool r).full; paid = (old_pool r).paid }
 
-abbrev pub old_file_answer : List ℕ → FileSettlement
+unfoldable pub old_answer : Reading → Result Paid Faulty
+old_answer w =
+    if not (eqb w.number 0) then Err (faulty_at w.number w.place)
+    else if not (is_finished w.round) then Err (faulty_at 16 w.place)
+    else Ok (old_paid w.round)
+
+abbrev pub old_file_answer : List ℕ → Result Paid Faulty
 old_file_answer l = old_answer (old_read_file l)
 
 abbrev pub old_file_results : List ℕ → List ℕ

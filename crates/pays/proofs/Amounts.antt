@@ -1,17 +1,13 @@
 -- What a win, a push and a loss hand back: a win at n to 1 is n + 1 wagers, a push is the wager, and a push is told from a loss by
 -- any wager that was placed.
 -- Assumes nothing.
-use Prim.Native.Nat.{ℕ, ◌+◌, ◌*◌, ◌≤◌, ◌<◌}
+use Prim.Native.Nat.{ℕ, ◌+◌, ◌*◌, ◌<◌}
 use mathlib.Core.Path.{◌≡◌, refl}
 use native.Mathlib.Omega.{arith}
-use native.Mathlib.Nat.{add-mul, mul-le-mul}
+use native.Mathlib.Nat.{add-mul}
 use Rattle.pays.specs.declared.Pay.{Pay}
 use Rattle.pays.specs.declared.Pay.TheVariants.{To, ThreeToTwo, To200000, Push, Loss, NoTable}
 use Rattle.pays.specs.Amounts.{handed_back}
-
--- odds of a u16 times a wager of a u32
-pub times_most : (odds wager : ℕ) → odds ≤ 65535 → wager ≤ 4294967295 → odds * wager ≤ 65535 * 4294967295
-times_most odds wager a b = mul-le-mul a b
 
 pub win_back : (odds wager : ℕ) → handed_back (To odds) wager ≡ 100 * ((odds + 1) * wager)
 win_back odds wager = rw (add-mul odds 1 wager) (omega arith)

@@ -45,8 +45,7 @@ pub fn handed_back(pay: Pay, wager: u32) -> u64
         Pay::ThreeToTwo => 100 * (wager as u64) + 150 * (wager as u64),
         Pay::To200000 => 100 * (wager as u64) + 20000000 * (wager as u64),
         Pay::Push => 100 * (wager as u64),
-        Pay::Loss => 0,
-        Pay::NoTable => 0,
+        Pay::Loss | Pay::NoTable => 0,
     }
 }
 
@@ -58,9 +57,7 @@ pub fn win_at(pay: Pay, wager: u32) -> u64
         Pay::To(odds) => times(odds, wager),
         Pay::ThreeToTwo => 3 * (wager as u64) / 2,
         Pay::To200000 => 200000 * (wager as u64),
-        Pay::Push => 0,
-        Pay::Loss => 0,
-        Pay::NoTable => 0,
+        Pay::Push | Pay::Loss | Pay::NoTable => 0,
     }
 }
 
@@ -69,10 +66,7 @@ pub fn is_above_fifty(pay: Pay) -> bool
 {
     match pay {
         Pay::To(odds) => 50 < odds,
-        Pay::ThreeToTwo => false,
         Pay::To200000 => true,
-        Pay::Push => false,
-        Pay::Loss => false,
-        Pay::NoTable => false,
+        Pay::ThreeToTwo | Pay::Push | Pay::Loss | Pay::NoTable => false,
     }
 }

@@ -7,20 +7,21 @@ use mathlib.Core.List.{List, [], ◌∷◌, map}
 use native.Mathlib.Omega.{arith}
 use lib.Dec.{eqb, leb, ltb}
 use lib.ListN.{length, get_or, length-map, get_or-eq_default}
-use borrow.Author.Tests.{le-leb, lt-leb, leb-true, leb-false, lt-ltb, le-ltb, ltb-true, ltb-false, eq-eqb, ne_eqb, eqb-true, not-false}
-use Rattle.std.specs.Prelude.{if◌then◌else◌}
+use borrow.Author.Tests.{le-leb, lt-leb, leb-true, leb-false, lt-ltb, le-ltb, ltb-true, ltb-false, eq-eqb, ne_eqb, eqb-true, eqb-false, not-false}
+use Rattle.std.specs.Prelude.{Result, Ok, Err, if◌then◌else◌}
+use Rattle.causes.specs.declared.Refusal.{Refusal}
+use Rattle.causes.specs.Refusal.{number, cause, number_of, answered}
 use Rattle.counting.specs.Choose.{one}
 use Rattle.counting.specs.Count.{tally, total}
 use Rattle.counting.proofs.Tests.{clash, and_true, both, one_le, or_false, neither}
-use Rattle.counting.proofs.Answers.{by_number}
 use Rattle.counting.proofs.Ranges.{tally_le}
 use Rattle.counting.proofs.Gathers.{gather_same, each-length, each_at, each_of}
 use Rattle.counting.proofs.Sums.{sum_add, sum_same, tally-sum}
 use Rattle.counting.proofs.Tallies.{total-sum}
 use Rattle.counting.proofs.Ranks.{tally_weaker, rank_less, first_many}
 use Rattle.pool.specs.declared.Shared.{Shared}
-use Rattle.pool.specs.declared.Shared.TheVariants.{Full, Cut, Refused}
-use Rattle.pool.specs.Pool.{rounded_down, fraction_at, dollars_left, stands_before, ahead, gets_one, share_of, shares_of, wins_fit, share_refusal, share_answer, share_list, number_of}
+use Rattle.pool.specs.declared.Shared.TheVariants.{Full, Cut}
+use Rattle.pool.specs.Pool.{rounded_down, fraction_at, dollars_left, stands_before, ahead, gets_one, share_of, shares_of, wins_fit, share_refusal, share_answer, share_list}
 use Rattle.pool.specs.Shares.{rounded_at, Shares}
 use Rattle.pool.proofs.Rounded.{rounded_most, rounded_below, rounded_at_lem, no_fraction, rounded_within, few_left}
 use Rattle.pool.proofs.Standing.{first, larger_first, earlier-first, never, onwards, either}
@@ -185,6 +186,25 @@ module _ (maximum : ℕ) (wins : List ℕ) where
         earlier = by_place;
       }
 
+-- ---- an answer that goes by the number n of a refusal
+
+module _ {A : Type 0} (n : ℕ) (x : A) where
+  pub unrefused : (given : A) → Ok given ≡ answered n x → n ≡ 0
+  unfolding answered
+  unrefused given h = go (eqb n 0) refl h
+    where
+      go : (none : Bool) → eqb n 0 ≡ none → Ok given ≡ (if none then Ok x else Err (cause n)) → n ≡ 0
+      go true e h = eqb-true _ _ e
+      go false e h = let z : ◌≡◌ {A = ℕ} 0 1 = cc in absurd (omega arith)
+
+  pub refused_as : (refusal : Refusal) → Err refusal ≡ answered n x → (n ≡ 0 → ⊥) × (cause n ≡ refusal)
+  unfolding answered
+  refused_as refusal h = go (eqb n 0) refl h
+    where
+      go : (none : Bool) → eqb n 0 ≡ none → Err refusal ≡ (if none then Ok x else Err (cause n)) → (n ≡ 0 → ⊥) × (cause n ≡ refusal)
+      go true e h = let z : ◌≡◌ {A = ℕ} 0 1 = cc in absurd (omega arith)
+      go false e h = (eqb-false _ _ e, cc)
+
 -- ---- which pools are shared
 
 module _ (wins : List ℕ) (maximum room : ℕ) where
@@ -203,27 +223,30 @@ module _ (wins : List ℕ) (maximum room : ℕ) where
 
   -- ---- the answer
 
-  pub answer-refused : (share_refusal wins maximum room ≡ 0 → ⊥) → share_answer wins maximum room ≡ Refused (share_refusal wins maximum room)
-  unfolding share_answer
+  pub answer-refused : (share_refusal wins maximum room ≡ 0 → ⊥) → share_answer wins maximum room ≡ Err (cause (share_refusal wins maximum room))
+  unfolding share_answer answered
   answer-refused h = simp (ne_eqb _ _ h)
 
-  pub answer_full : share_refusal wins maximum room ≡ 0 → total wins ≤ maximum → share_answer wins maximum room ≡ Full
-  unfolding share_answer
+  pub answer_full : share_refusal wins maximum room ≡ 0 → total wins ≤ maximum → share_answer wins maximum room ≡ Ok Full
+  unfolding share_answer answered
   answer_full e h = simp (e, le-leb _ _ h)
 
-  pub answer-cut : share_refusal wins maximum room ≡ 0 → maximum < total wins → share_answer wins maximum room ≡ Cut
-  unfolding share_answer
+  pub answer-cut : share_refusal wins maximum room ≡ 0 → maximum < total wins → share_answer wins maximum room ≡ Ok Cut
+  unfolding share_answer answered
   answer-cut e h = simp (e, lt-leb _ _ h)
 
-  shared_number : (full : Bool) → number_of (if full then Full else Cut) ≡ 0
-  shared_number true = refl
-  shared_number false = refl
-
   pub answer_number : number_of (share_answer wins maximum room) ≡ share_refusal wins maximum room
-  unfolding share_answer
-  answer_number =
-      let number = share_refusal wins maximum room in
-      by_number number (λ none. if not none then Refused number else if leb (total wins) maximum then Full else Cut) number_of (shared_number (leb (total wins) maximum)) refl
+  unfolding share_answer share_refusal answered
+  answer_number = go (not (eqb (length wins) room) || ltb 7 (length wins)) (not (wins_fit wins) || ltb 75000 maximum)
+    where
+      go : (lists limits : Bool)
+          → number_of (answered (if lists then 19 else if limits then 20 else 0) (if leb (total wins) maximum then Full else Cut)) ≡ (if lists then 19 else if limits then 20 else 0)
+      go true limits = refl
+      go false true = refl
+      go false false = refl
+
+  pub refused_number : (share_refusal wins maximum room ≡ 0 → ⊥) → number (cause (share_refusal wins maximum room)) ≡ share_refusal wins maximum room
+  refused_number h = ap number_of (sym (answer-refused h)) ∙ answer_number
 
 -- ---- the lent list
 
@@ -237,7 +260,7 @@ module _ (wins : List ℕ) (maximum : ℕ) (lent : List ℕ) where
   refused h = simp (ne_eqb _ _ h)
 
   -- what is promised of an answer and of the list at the end
-  pub promised : (r : Shared) (new : List ℕ) → r ≡ share_answer wins maximum (length lent) → new ≡ share_list wins maximum lent
+  pub promised : (r : Result Shared Refusal) (new : List ℕ) → r ≡ share_answer wins maximum (length lent) → new ≡ share_list wins maximum lent
       → record {
         answer : r ≡ share_answer wins maximum (length lent);
         number : number_of r ≡ share_refusal wins maximum (length lent);

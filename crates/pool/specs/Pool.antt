@@ -1,10 +1,12 @@
 -- The round maximum: how a pool of wins is shared. Wins, shares and the maximum are whole dollars.
 -- Assumes nothing.
-use Rattle.std.specs.Prelude.{ℕ, ◌+◌, ◌*◌, ◌-◌, ◌/◌, ◌%◌, Bool, not, ◌&&◌, ◌||◌, List, map, eqb, leb, ltb, length, get_or, replicate, if◌then◌else◌}
+use Rattle.std.specs.Prelude.{ℕ, ◌+◌, ◌*◌, ◌-◌, ◌/◌, ◌%◌, Bool, not, ◌&&◌, ◌||◌, List, map, eqb, leb, ltb, length, get_or, replicate, Result, if◌then◌else◌}
 use Rattle.counting.specs.Choose.{one}
 use Rattle.counting.specs.Count.{tally, every_of, total, each}
+use Rattle.causes.specs.declared.Refusal.{Refusal}
+use Rattle.causes.specs.Refusal.{answered}
 use Rattle.pool.specs.declared.Shared.{Shared}
-use Rattle.pool.specs.declared.Shared.TheVariants.{Full, Cut, Refused}
+use Rattle.pool.specs.declared.Shared.TheVariants.{Full, Cut}
 use Rattle.pool.specs.declared.Pool.{Pool}
 
 -- ---- A pool above the maximum: each gets maximum × its win ÷ total, which is whole dollars and a fraction of one.
@@ -64,24 +66,15 @@ share_refusal wins maximum room =
     else if not (wins_fit wins) || ltb 75000 maximum then 20
     else 0
 
--- what is answered on any input: refused with its number, or all paid in full, or cut to their shares
-unfoldable pub share_answer : List ℕ → ℕ → ℕ → Shared
-share_answer wins maximum room =
-    if not (eqb (share_refusal wins maximum room) 0) then Refused (share_refusal wins maximum room)
-    else if leb (total wins) maximum then Full
-    else Cut
+-- what is answered on any input: refused, or shared, with all paid in full or cut to their shares
+unfoldable pub share_answer : List ℕ → ℕ → ℕ → Result Shared Refusal
+share_answer wins maximum room = answered (share_refusal wins maximum room) (if leb (total wins) maximum then Full else Cut)
 
 -- what the lent list then holds, on any input: a refusal leaves it as it was
 unfoldable pub share_list : List ℕ → ℕ → List ℕ → List ℕ
 share_list wins maximum lent =
     if not (eqb (share_refusal wins maximum (length lent)) 0) then lent
     else shares_of maximum wins
-
--- this paper's number for each answer: the refusal's, and 0 where the pool was shared
-abbrev pub number_of : Shared → ℕ
-number_of Full = 0
-number_of Cut = 0
-number_of (Refused number) = number
 
 -- ---- seven wins by value
 

@@ -7,22 +7,22 @@
 #![tactic(auto)]
 
 ghost use Rattle.std.specs.Prelude.{◌≡◌, true, map, ◌≤◌, ◌<◌, length};
+ghost use Rattle.causes.specs.Refusal.{number_of, answered};
 ghost use Rattle.counting.specs.Choose.{one};
 ghost use Rattle.counting.specs.Count.{total};
-ghost use Rattle.pool.specs.Pool.{rounded_down, shares_of, wins_fit, share_refusal, share_answer, share_list, number_of, pool_of};
+ghost use Rattle.pool.specs.Pool.{rounded_down, shares_of, wins_fit, share_refusal, share_answer, share_list, pool_of};
 ghost use Rattle.pool.specs.Standings.{standings, gets_dollar, given};
 
+use causes::Refusal;
 use counting::{above_of, one_where};
 
-// The answer of share.
-#[derive(Clone, Copy)]
+// How a pool is paid that isn't refused.
+#[derive(Clone, Copy, PartialEq, Eq, Debug)]
 pub enum Shared {
     // Every win is paid in full.
     Full,
     // The pool exceeds the maximum: each win is cut to its share.
     Cut,
-    // 19 or 20; the lent list is as it was.
-    Refused(u8),
 }
 
 // The pool of seven wins: its total in full and as paid, and the share of each.
@@ -39,33 +39,20 @@ pub struct Pool {
 fn wins_fit(wins: &[u64]) -> bool
     ensures { result ≡ wins_fit wins.now }
 {
-    let mut i = 0;
-    while i < wins.len() {
-        if 500000 < wins[i] {
-            return false;
-        }
-        i += 1;
-    }
-    true
+    wins.iter().all(|win| *win <= 500000)
 }
 
-// The refusal's number, or 0.
-fn share_refusal(wins: &[u64], maximum: u64, room: usize) -> u8
-    ensures { result ≡ share_refusal wins.now maximum room }
+// Why the wins may not be shared into a list of this length.
+fn share_refusal(wins: &[u64], maximum: u64, room: usize) -> Result<(), Refusal>
+    ensures { result ≡ answered (share_refusal wins.now maximum room) tt }
 {
-    if wins.len() != room {
-        return 19;
+    if wins.len() != room || 7 < wins.len() {
+        return Err(Refusal::SharingLists);
     }
-    if 7 < wins.len() {
-        return 19;
+    if !wins_fit(wins) || 75000 < maximum {
+        return Err(Refusal::SharingLimit);
     }
-    if !wins_fit(wins) {
-        return 20;
-    }
-    if 75000 < maximum {
-        return 20;
-    }
-    0
+    Ok(())
 }
 
 // The pool's total.
@@ -73,13 +60,7 @@ fn total_of(wins: &[u64]) -> u64
     requires { total wins.now ≤ 3500000 }
     ensures { result ≡ total wins.now }
 {
-    let mut sum: u64 = 0;
-    let mut i = 0;
-    while i < wins.len() {
-        sum += wins[i];
-        i += 1;
-    }
-    sum
+    wins.iter().sum()
 }
 
 // Each win's share rounded down, into a list as long; and where each win stands, as one number: the larger, the earlier.
@@ -90,12 +71,10 @@ fn round_down(wins: &[u64], maximum: u64, pool: u64, shares: &mut [u64]) -> [u64
     ensures list { shares.new ≡ map (rounded_down maximum pool) wins.now }
 {
     let mut stand = [0u64; 7];
-    let mut i = 0;
-    while i < wins.len() {
-        let product = maximum * wins[i];
+    for (i, win) in wins.iter().enumerate() {
+        let product = maximum * *win;
         shares[i] = product / pool;
         stand[i] = product % pool * 8 + (7 - i as u64);
-        i += 1;
     }
     stand
 }
@@ -104,10 +83,7 @@ fn round_down(wins: &[u64], maximum: u64, pool: u64, shares: &mut [u64]) -> [u64
 fn dollar_to(left: u64, stand: &[u64], own: u64) -> u64
     ensures { (result ≡ one (gets_dollar left stand.now own)) × (result ≤ 1) }
 {
-    if own < 8 {
-        return 0;
-    }
-    one_where(above_of(stand, own) < left)
+    one_where(8 <= own && above_of(stand, own) < left)
 }
 
 // The dollars left, one each to those who stand first.
@@ -115,10 +91,8 @@ fn give(left: u64, stand: &[u64], shares: &mut [u64])
     requires { (length shares.old ≤ length stand.now) × (total shares.old ≤ 3500000) }
     ensures { shares.new ≡ given left stand.now shares.old }
 {
-    let mut k = 0;
-    while k < shares.len() {
-        shares[k] += dollar_to(left, stand, stand[k]);
-        k += 1;
+    for (k, share) in shares.iter_mut().enumerate() {
+        *share += dollar_to(left, stand, stand[k]);
     }
 }
 
@@ -132,31 +106,25 @@ fn fill(wins: &[u64], maximum: u64, pool: u64, shares: &mut [u64])
         let stand = round_down(wins, maximum, pool, shares);
         let left = maximum - total_of(shares);
         give(left, &stand, shares);
-        return;
-    }
-    let mut i = 0;
-    while i < wins.len() {
-        shares[i] = wins[i];
-        i += 1;
+    } else {
+        shares.copy_from_slice(wins);
     }
 }
 
-// Shares the maximum among up to seven wins, and writes each win's share at its place of an equally long list.
-pub fn share(wins: &[u64], maximum: u64, shares: &mut [u64]) -> Shared
+// Shares the maximum among up to seven wins, and writes each win's share at its place of an equally long list. A refusal, 19 or 20, leaves the list as it was.
+pub fn share(wins: &[u64], maximum: u64, shares: &mut [u64]) -> Result<Shared, Refusal>
     ensures answer { result ≡ share_answer wins.now maximum (length shares.old) }
     ensures number { number_of result ≡ share_refusal wins.now maximum (length shares.old) }
     ensures list { shares.new ≡ share_list wins.now maximum shares.old }
 {
-    let refusal = share_refusal(wins, maximum, shares.len());
-    if refusal != 0 {
-        return Shared::Refused(refusal);
-    }
+    share_refusal(wins, maximum, shares.len())?;
     let pool = total_of(wins);
     fill(wins, maximum, pool, shares);
-    if pool <= maximum {
-        return Shared::Full;
-    }
-    Shared::Cut
+    Ok(if pool <= maximum {
+        Shared::Full
+    } else {
+        Shared::Cut
+    })
 }
 
 // Shares the maximum among seven wins; a place that has no win has a win of 0.
@@ -164,10 +132,9 @@ pub fn pool_of(wins: [u64; 7], maximum: u64) -> Pool
     ensures { result ≡ pool_of wins maximum }
 {
     let mut shares = [0u64; 7];
-    let number = share_refusal(&wins, maximum, 7);
-    if number != 0 {
+    if let Err(refusal) = share_refusal(&wins, maximum, 7) {
         return Pool {
-            number,
+            number: refusal.number(),
             full: 0,
             paid: 0,
             shares,
@@ -177,7 +144,7 @@ pub fn pool_of(wins: [u64; 7], maximum: u64) -> Pool
     fill(&wins, maximum, full, &mut shares);
     let paid = total_of(&shares);
     Pool {
-        number,
+        number: 0,
         full,
         paid,
         shares,

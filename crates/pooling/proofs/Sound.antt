@@ -21,8 +21,8 @@ use Rattle.records.specs.Seats.{plays}
 use Rattle.hands.specs.Hand.{hand_refusal}
 use Rattle.hands.proofs.Refusals.{sound_hand}
 use Rattle.holding.specs.Deal.{playing_before, dealers_first, hole_at, community_at, hole, community, six_card, six_hand}
-use Rattle.names.specs.Answer.{answer}
-use Rattle.allsix.specs.declared.SixAnswer.TheVariants.{Name}
+use Rattle.std.specs.Prelude.{Ok}
+use Rattle.causes.specs.Refusal.{answered}
 use Rattle.allsix.specs.Six.{name_six, answer_six}
 use Rattle.round.specs.declared.Round.{Round}
 use Rattle.round.specs.Order.{is_finished}
@@ -103,6 +103,6 @@ module _ (offer : ℕ) (antes cards : List ℕ) (whole : whole_deck cards ≡ tr
 
 -- so in a finished round that accepted records lead to name_six answers the name that a playing seat's wager is settled by
 pub six_answered : (r : Round) → Led r → is_finished r ≡ true → (k : ℕ) → k < 7 → plays r.wagers.antes k ≡ true
-    → answer_six (six_hand r.table.six r.wagers.antes r.deck.cards k) ≡ Name (name_six (six_hand r.table.six r.wagers.antes r.deck.cards k))
-unfolding answer_six answer
+    → answer_six (six_hand r.table.six r.wagers.antes r.deck.cards k) ≡ Ok (name_six (six_hand r.table.six r.wagers.antes r.deck.cards k))
+unfolding answer_six answered
 six_answered r l e k h p = simp (six_sound r.table.six r.wagers.antes r.deck.cards (led_deck r l (finished_dealt r e)) k h p)

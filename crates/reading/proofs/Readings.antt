@@ -6,7 +6,7 @@ use mathlib.Core.Bool.{Bool, true, false, not}
 use mathlib.Core.List.{List, [], ◌∷◌, ◌++◌}
 use native.Mathlib.Omega.{arith}
 use lib.Dec.{eqb, ltb}
-use lib.ListN.{length, take, drop, length-append}
+use lib.ListN.{length, length-append}
 use borrow.Author.Tests.{ne_eqb, eqb-true, eqb-false}
 use Rattle.std.specs.Prelude.{if◌then◌else◌}
 use Rattle.counting.proofs.Lists.{every_of_left, every_of_right}
@@ -21,10 +21,19 @@ use Rattle.led.specs.Led.Leads.{done, then as accepts}
 use Rattle.led.specs.Held.{is_held}
 use Rattle.led.proofs.Took.{none_taken, took}
 use Rattle.led.proofs.Kept.{Long, Fits, fits_held, fresh_long, fresh_fits, taken_fits}
+use denote.Ref.{Bor}
+use Rattle.std.specs.Prelude.{None, Some}
+use Rattle.std.specs.declared.iter.Enumerate.{Enumerate}
+use Rattle.std.specs.declared.slice.ChunksExact.{ChunksExact}
+use Rattle.std.specs.Iterator.Adapters.{enumerate_source, enumerate_count, enumerate_steps}
+use Rattle.std.specs.Slice.Iter.{chunks_exact_rest, chunks_exact_size, chunks_exact_steps}
+use Rattle.causes.specs.declared.Refusal.{Refusal}
+use Rattle.causes.specs.Refusal.{number, cause}
+use Rattle.causes.proofs.Numbers.{cause-number}
 use Rattle.reading.specs.declared.Reading.{Reading}
 use Rattle.reading.specs.File.{file_records, stop, read_by, read_records, read_file}
 use Rattle.reading.specs.Joined.{joined, Whole}
-use Rattle.reading.proofs.Records.{records_cons, records_end, records_count, records_bytes, records_joined, records_behind, joined_length}
+use Rattle.reading.proofs.Records.{records_end, records_count, records_bytes, records_joined, records_behind, records_app, joined_length}
 
 -- ---- one record
 
@@ -37,22 +46,51 @@ module _ (by : Round → List ℕ → Step) (r : Round) (p : ℕ) (b : List ℕ)
   unfolding read_by
   read_stops e = simp e
 
--- of a file, where n is the refusal of its first record
-module _ (r : Round) (p : ℕ) (l : List ℕ) (n : ℕ) (long : 16 ≤ length l) (a : n ≡ refusal r (take 16 l)) where
-  pub file_on : n ≡ 0 → read_by feed r p (file_records l) ≡ read_by feed (next r (take 16 l)) (p + 1) (file_records (drop 16 l))
-  file_on z =
-      let none : refusal r (take 16 l) ≡ 0 = sym a ∙ z in
-      rw (records_cons l long, ← (feed-next r (take 16 l) none))
-      (read_on feed r p (take 16 l) (file_records (drop 16 l)) (none_taken r (take 16 l) none))
+-- no refusal has the number 0
+some_number : (refusal : Refusal) → number refusal ≡ 0 → ⊥
+some_number refusal z = let e : number refusal ≡ 20 = ap number (sym (cause-number refusal) ∙ ap cause z) in absurd (omega arith)
 
-  pub file_stops : (n ≡ 0 → ⊥) → read_by feed r p (file_records l) ≡ stop r n p
-  file_stops z =
-      let e : n ≡ number_of (feed r (take 16 l)).answer = a ∙ sym (feed_number r (take 16 l)) in
-      rw (records_cons l long, e) (read_stops feed r p (take 16 l) (file_records (drop 16 l)) (rw (← e) (ne_eqb n 0 z)))
+-- ---- a file, as the library cuts it
 
-pub file_ends : (r : Round) (p : ℕ) (l : List ℕ) → length l < 16 → read_by feed r p (file_records l) ≡ stop r 0 p
-unfolding read_by
-file_ends r p l h = rw records_end
+-- the records of l that are still to be read are those that `it` has left, from round r on
+abbrev pub Going : List ℕ → Round → Enumerate (ChunksExact ℕ) → Type 0
+Going l r it =
+    (chunks_exact_size (enumerate_source it) ≡ 16)
+    × (16 * enumerate_count it + length (chunks_exact_rest (enumerate_source it)) ≡ length l)
+    × (read_records (file_records l) ≡ read_by feed r (enumerate_count it) (file_records (chunks_exact_rest (enumerate_source it))))
+
+pub going_first : (l : List ℕ) (r : Round) (it : Enumerate (ChunksExact ℕ)) → r ≡ fresh_round → enumerate_count it ≡ 0
+    → chunks_exact_size (enumerate_source it) ≡ 16 → chunks_exact_rest (enumerate_source it) ≡ l → Going l r it
+going_first l r it f n size rest = rw (f, n, rest) (size, omega arith, refl)
+
+module _ (l : List ℕ) (r : Round) (it after : Enumerate (ChunksExact ℕ)) (g : Going l r it) where
+  pub going_ends : enumerate_steps chunks_exact_steps it None after → read_records (file_records l) ≡ stop r 0 (length l / 16)
+  unfolding read_by
+  going_ends s =
+      let few : length (chunks_exact_rest (enumerate_source it)) < 16 = omega (arith, s.0.1.0, g.0) in
+      let n : enumerate_count it ≡ length l / 16 = omega (arith, g.1) in
+      g.2 ∙ rw (records_end (chunks_exact_rest (enumerate_source it)) few, n)
+
+  module _ (place : ℕ) (b : Bor (List ℕ)) (s : enumerate_steps chunks_exact_steps it (Some (place, b)) after) where
+    long : length b.now ≡ 16
+    long = s.0.1.1 ∙ g.0
+
+    here : read_records (file_records l) ≡ read_by feed r place (b.now ∷ file_records (chunks_exact_rest (enumerate_source after)))
+    here = g.2 ∙ rw (s.0.1.0, records_app b.now (chunks_exact_rest (enumerate_source after)) long, s.1)
+
+    pub going_stops : (refused : Refusal) → number refused ≡ refusal r b.now → read_records (file_records l) ≡ stop r (number refused) place
+    going_stops refused a =
+        let e : number refused ≡ number_of (feed r b.now).answer = a ∙ sym (feed_number r b.now) in
+        here ∙ rw e (read_stops feed r place b.now (file_records (chunks_exact_rest (enumerate_source after))) (rw (← e) (ne_eqb (number refused) 0 (some_number refused))))
+
+    pub going_on : refusal r b.now ≡ 0 → Going l (next r b.now) after
+    going_on none = (
+      s.0.0 ∙ g.0,
+      omega (arith, s.2, g.1, long, ap length s.0.1.0, length-append b.now (chunks_exact_rest (enumerate_source after))),
+      here
+          ∙ rw (← (feed-next r b.now none), s.2, s.1)
+          (read_on feed r (enumerate_count it) b.now (file_records (chunks_exact_rest (enumerate_source after))) (none_taken r b.now none)),
+    )
 
 -- ---- the records one after the other
 

@@ -8,6 +8,10 @@ use native.Mathlib.Omega.{arith}
 use lib.Dec.{ltb}
 use lib.ListN.{length, take, drop, length-append, length-drop, take-append-drop}
 use lib.Seq.{take_all, take_at, drop_at, take-add, drop-drop, length-take-le}
+use Rattle.std.specs.declared.slice.ChunksExact.{ChunksExact}
+use Rattle.std.specs.Slice.Iter.{chunks_exact_rest, chunks_exact_size, chunks_exact_steps}
+use Rattle.std.proofs.lemmas.Iterator.{YieldsList}
+use Rattle.std.proofs.lemmas.Iterator.Splits.{YieldsList-from_shown_while}
 use Rattle.counting.specs.Count.{every_of}
 use Rattle.counting.proofs.Lists.{every_of_left, every_of_both, every_of-drop}
 use Rattle.records.specs.Bytes.{are_bytes}
@@ -117,3 +121,27 @@ cut_whole (suc n) l h = (length-take-le 16 l (omega arith), cut_whole n (drop 16
 pub records_whole : (l : List ℕ) → Whole (file_records l)
 unfolding file_records
 records_whole l = cut_whole (length l / 16) l (omega arith)
+
+-- ---- the records of a file, and the first n of them
+
+first_of : (n : ℕ) (l : List ℕ) → 16 * n ≤ length l → length (file_records (take (16 * n) l)) ≡ n
+first_of n l h = records_count (take (16 * n) l) ∙ rw (length-take-le (16 * n) l h) (omega arith)
+
+pub records_first : (n : ℕ) (l : List ℕ) → 16 * n ≤ length l → joined (take n (file_records l)) ≡ take (16 * n) l
+records_first n l h =
+    rw (records_split n l h, take_at (file_records (take (16 * n) l)) (file_records (drop (16 * n) l)) n (first_of n l h))
+    (joined_records (take (16 * n) l) (rw (length-take-le (16 * n) l h) (omega arith)))
+
+pub records_rest : (n : ℕ) (l : List ℕ) → 16 * n ≤ length l → drop n (file_records l) ≡ file_records (drop (16 * n) l)
+records_rest n l h = rw (records_split n l h) (drop_at (file_records (take (16 * n) l)) (file_records (drop (16 * n) l)) n (first_of n l h))
+
+-- ---- cut by the library
+
+pub YieldsList-from_records : {s : ChunksExact ℕ} (l : List ℕ) → chunks_exact_rest s ≡ l → chunks_exact_size s ≡ 16
+    → YieldsList chunks_exact_steps (λ y. y.now) s (file_records l)
+YieldsList-from_records {s} l e n =
+    rw (sym e)
+    (YieldsList-from_shown_while chunks_exact_steps (λ y. y.now) (λ t. file_records (chunks_exact_rest t)) (λ t. chunks_exact_size t ≡ 16)
+    (λ t u p q. ap length (records_end (chunks_exact_rest t) (rw (← p) q.1.0)))
+    (λ t x u p q. (q.0 ∙ p, rw q.1.0 (records_app x.now (chunks_exact_rest u) (q.1.1 ∙ p))))
+    s n)

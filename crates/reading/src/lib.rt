@@ -8,6 +8,7 @@
 ghost use Rattle.std.specs.Prelude.{◌≡◌, ◌+◌, ◌*◌, ◌/◌, ◌%◌};
 ghost use Rattle.reading.specs.File.{file_records, read_records, read_file, read_prefix, refused_part};
 
+use causes::Refusal;
 use round::Round;
 
 // Where reading ends: the round that is then held, the refusal's number or 0, and its place.
@@ -18,30 +19,27 @@ pub struct Reading {
     pub place: usize,
 }
 
-// The records of a file, fed one at a time from the fresh round until the first refusal. An odd tail is not looked at.
+// The records of a file, fed one at a time from the fresh round until the first refusal. An odd tail is not looked at. It stays a call of its own, so that its frame is
+// off the stack before a round is settled or written.
+#[inline(never)]
 fn read_records(file: &[u8]) -> Reading
     ensures { result ≡ read_records (file_records file.now) }
 {
-    let mut rest = file;
     let mut round = Round::fresh();
-    let mut place = 0;
-    while 16 <= rest.len() {
-        let number = round.refusal(&rest[..16]);
-        if number != 0 {
+    for (place, record) in file.chunks_exact(16).enumerate() {
+        if let Err(refusal) = round.refusal(record) {
             return Reading {
                 round,
-                number,
+                number: refusal.number(),
                 place,
             };
         }
-        round = round.next(&rest[..16]);
-        rest = &rest[16..];
-        place += 1;
+        round = round.next(record);
     }
     Reading {
         round,
         number: 0,
-        place,
+        place: file.len() / 16,
     }
 }
 
@@ -60,6 +58,7 @@ fn odd_of(bytes: usize, after: usize) -> usize
 }
 
 // A file of which the first bytes are held, and of the rest how many come after.
+#[tactic(auto, unfolding(crate::specs::File::read_prefix))]
 pub fn read_prefix(first: &[u8], after: usize) -> Reading
     ensures { result ≡ read_prefix first.now after }
 {
@@ -67,24 +66,19 @@ pub fn read_prefix(first: &[u8], after: usize) -> Reading
     if odd_of(first.len(), after) != 0 {
         return Reading {
             round: Round::fresh(),
-            number: 2,
+            number: Refusal::RecordLength.number(),
             place: count,
         };
     }
-    let reading = read_records(first);
+    let mut reading = read_records(first);
     if (reading.number == 0) & (first.len() / 16 < count) {
-        let round = reading.round;
-        let place = reading.place;
-        return Reading {
-            round,
-            number: 3,
-            place,
-        };
+        reading.number = Refusal::OutOfPlace.number();
     }
     reading
 }
 
 // A whole file.
+#[tactic(auto, using(crate::proofs::Prefix::prefix_none))]
 pub fn read_file(file: &[u8]) -> Reading
     ensures { result ≡ read_file file.now }
 {
@@ -92,15 +86,13 @@ pub fn read_file(file: &[u8]) -> Reading
 }
 
 // The refused record as a part of the caller's own file: for 2 the odd bytes at the end, for no refusal the empty part at the end.
+#[tactic(auto, using(crate::proofs::Parts::part_in, crate::proofs::Parts::part_taken))]
 pub fn refused_part(file: &[u8]) -> &[u8]
     ensures contents { result.now ≡ refused_part file.now }
     ensures lies { (result.ref_ptr.0 ≡ file.entry.ref_ptr.0) × (result.ref_ptr.1 ≡ file.entry.ref_ptr.1 + 16 * (read_file file.now).place) }
 {
     let reading = read_file(file);
     let at = 16 * reading.place;
-    if file.len() - at <= 16 {
-        return &file[at..];
-    }
-    let end = at + 16;
-    &file[at..end]
+    let rest = &file[at..];
+    &rest[..rest.len().min(16)]
 }

@@ -9,10 +9,12 @@ ghost use Rattle.std.specs.Prelude.{◌≡◌};
 ghost use Rattle.records.specs.Bytes.{byte, word, zero_from, between};
 ghost use Rattle.records.specs.Seats.{place, any_plays};
 
+use counting::at;
+
 pub fn byte_at(bytes: &[u8], n: usize) -> u8
     ensures { result ≡ byte bytes.now n }
 {
-    if n < bytes.len() { bytes[n] } else { 0 }
+    at(bytes, n, 0)
 }
 
 // The two bytes at `n`, low byte first. The places of a record are far below the limit on `n`.
@@ -28,14 +30,7 @@ pub fn word_at(bytes: &[u8], n: u8) -> u16
 pub fn is_zero_from(bytes: &[u8], from: usize) -> bool
     ensures { result ≡ zero_from from bytes.now }
 {
-    let mut i = from;
-    while i < bytes.len() {
-        if bytes[i] != 0 {
-            return false;
-        }
-        i += 1;
-    }
-    true
+    bytes.iter().skip(from).all(|byte| *byte == 0)
 }
 
 pub fn is_between(low: u8, high: u8, n: u8) -> bool
@@ -54,12 +49,5 @@ pub fn place_of(seat: u8) -> u8
 pub fn any_plays(antes: [u16; 7]) -> bool
     ensures { result ≡ any_plays antes }
 {
-    let mut k = 0;
-    while k < 7 {
-        if antes[k] != 0 {
-            return true;
-        }
-        k += 1;
-    }
-    false
+    antes.iter().any(|ante| *ante != 0)
 }

@@ -1,12 +1,12 @@
 -- The pool and the results list of a round. The maximum and the pool are dollars, amounts are cents.
 -- Assumes nothing.
 use Rattle.std.specs.Prelude.{ℕ, ◌+◌, ◌*◌, List, [], ◌∷◌, get_or}
-use Rattle.counting.specs.Count.{gather, each}
+use Rattle.counting.specs.Count.{gather}
 use Rattle.seating.specs.declared.Table.{Table}
 use Rattle.round.specs.declared.Round.{Round}
 use Rattle.pool.specs.declared.Pool.{Pool}
 use Rattle.pool.specs.Pool.{pool_of}
-use Rattle.amounts.specs.Base.{wins, kept}
+use Rattle.amounts.specs.Base.{wins, kept, bases_of}
 use Rattle.amounts.specs.Sides.{board_pay_of, board_amount, pocket_amount, lo_amount, six_amount}
 use Rattle.results.specs.declared.Results.{Results}
 use Rattle.results.specs.declared.Judged.{Judged}
@@ -43,7 +43,7 @@ results r = gather 7 (seat_amounts r)
 
 -- what is worked out once for all seats, and the amounts of one
 abbrev pub judged_of : Round → Judged
-judged_of r = record { wins = wins r; kept = each 7 (kept r); pool = pool r; board = board_pay_of r }
+judged_of r = record { bases = bases_of r; pool = pool r; board = board_pay_of r }
 
 abbrev pub amounts_of : Round → ℕ → Amounts
 amounts_of r k = record { base = base_amount r k; board = board_amount r k; pocket = pocket_amount r k; lo = lo_amount r k; six = six_amount r k }

@@ -8,8 +8,8 @@
 ghost use Rattle.std.specs.Prelude.{◌≡◌, ◌<◌};
 ghost use Rattle.results.specs.Results.{maximum, base_amount, results, judged_of, amounts_of, results_of};
 
-use amounts::{base_wager, bases_of, board_pay_of, lo_amount, pocket_amount, six_amount};
-use counting::at7;
+use amounts::{Bases, base_wager, bases_of, board_pay_of, lo_amount, pocket_amount, six_amount};
+use counting::at;
 use pays::{Pay, handed_back};
 use pool::{Pool, pool_of};
 use round::Round;
@@ -31,11 +31,10 @@ pub struct Results {
     pub amounts: [u64; RESULTS],
 }
 
-// What is worked out once for all seats: the wins in the pool, what comes back besides, the pool, and what the Board pays.
+// What is worked out once for all seats: the wins in the pool and what comes back besides, the pool, and what the Board pays.
 #[derive(Clone, Copy)]
 pub struct Judged {
-    pub wins: [u64; 7],
-    pub kept: [u64; 7],
+    pub bases: Bases,
     pub pool: Pool,
     pub board: Pay,
 }
@@ -61,82 +60,64 @@ fn judge(round: Round) -> Judged
     ensures { result ≡ judged_of round }
 {
     let bases = bases_of(round);
-    let wins = bases.wins;
-    let kept = bases.kept;
-    let pool = pool_of(wins, maximum_of(round.table));
+    let pool = pool_of(bases.wins, maximum_of(round.table));
     let board = board_pay_of(round);
-    Judged {
-        wins,
-        kept,
-        pool,
-        board,
-    }
+    Judged { bases, pool, board }
 }
 
 // In the pool the wager and the share, else what was kept.
-fn base_amount(round: Round, judged: Judged, k: u8) -> u64
-    requires { (k < 7) × (judged ≡ judged_of round) }
-    ensures { result ≡ base_amount round k }
+fn base_amount(round: &Round, judged: &Judged, k: u8) -> u64
+    requires { (k < 7) × (judged.now ≡ judged_of round.now) }
+    ensures { result ≡ base_amount round.now k }
 {
-    let at = k as usize;
-    let kept = judged.kept;
-    let shares = judged.pool.shares;
-    if 0 < judged.wins[at] {
-        return 100 * (base_wager(round, k) as u64 + shares[at]);
+    let place = k as usize;
+    if 0 < judged.bases.wins[place] {
+        return 100 * (base_wager(*round, k) as u64 + judged.pool.shares[place]);
     }
-    kept[at]
+    judged.bases.kept[place]
 }
 
-fn amounts_of(round: Round, judged: Judged, k: u8) -> Amounts
-    requires { (k < 7) × (judged ≡ judged_of round) }
-    ensures { result ≡ amounts_of round k }
+fn amounts_of(round: &Round, judged: &Judged, k: u8) -> Amounts
+    requires { (k < 7) × (judged.now ≡ judged_of round.now) }
+    ensures { result ≡ amounts_of round.now k }
 {
-    let placed = round.wagers.board;
-    let pay = judged.board;
-    let base = base_amount(round, judged, k);
-    let board = handed_back(pay, at7(placed, k as usize) as u32);
-    let pocket = pocket_amount(round, k);
-    let lo = lo_amount(round, k);
-    let six = six_amount(round, k);
+    let wager = at(&round.wagers.board, k as usize, 0);
     Amounts {
-        base,
-        board,
-        pocket,
-        lo,
-        six,
+        base: base_amount(round, judged, k),
+        board: handed_back(judged.board, wager as u32),
+        pocket: pocket_amount(*round, k),
+        lo: lo_amount(*round, k),
+        six: six_amount(*round, k),
     }
 }
 
-fn list_of(round: Round, judged: Judged) -> [u64; RESULTS]
-    requires { judged ≡ judged_of round }
-    ensures { result ≡ results round }
+fn list_of(round: &Round, judged: &Judged) -> [u64; RESULTS]
+    requires { judged.now ≡ judged_of round.now }
+    ensures { result ≡ results round.now }
 {
     let mut list = [0u64; RESULTS];
-    let mut k = 0;
-    while k < 7 {
+    for k in 0..7 {
         let seat = amounts_of(round, judged, k as u8);
-        let at = SEAT_WAGERS * k;
-        list[at] = seat.base;
-        list[at + 1] = seat.board;
-        list[at + 2] = seat.pocket;
-        list[at + 3] = seat.lo;
-        list[at + 4] = seat.six;
-        k += 1;
+        let first = SEAT_WAGERS * k;
+        list[first] = seat.base;
+        list[first + 1] = seat.board;
+        list[first + 2] = seat.pocket;
+        list[first + 3] = seat.lo;
+        list[first + 4] = seat.six;
     }
     list
 }
 
-// The pool and the results list of a round.
+// The pool and the results list of a round. It stays a call of its own, so that its frame is not part of its callers'.
+#[inline(never)]
 pub fn results_of(round: Round) -> Results
     ensures { result ≡ results_of round }
 {
     let judged = judge(round);
-    let full = judged.pool.full;
-    let paid = judged.pool.paid;
-    let amounts = list_of(round, judged);
+    let amounts = list_of(&round, &judged);
     Results {
-        full,
-        paid,
+        full: judged.pool.full,
+        paid: judged.pool.paid,
         amounts,
     }
 }

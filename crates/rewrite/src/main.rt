@@ -19,12 +19,10 @@
 
 #![tactic(auto)]
 
-ghost use Rattle.pipes.specs.Counts.{IsPrefixLen};
-
-use pipes::{Outcome, called, end, print, read_first, tell_text};
+use pipes::{Fault, First, Outcome, called, end, print, read_first, tell_text};
 use reading::read_prefix;
-use text::{put_line, put_named};
-use writing::{WriteAnswer, write_round};
+use text::Page;
+use writing::write_round;
 
 const NAME: [u8; 7] = *b"rewrite";
 
@@ -33,52 +31,43 @@ const HELD_BYTES: usize = 544;
 
 fn refused(rt: &impl Eprint, number: u8, place: usize) -> Outcome {
     let mut room = [0u8; 64];
-    let numbered = put_named(&mut room, 0, b"refused ", number as u64);
-    let last = put_line(&mut room, numbered, b" at", &[place as u64]);
-    tell_text(rt, &room, last);
+    let mut page = Page::new(&mut room);
+    page.put_named(b"refused ", number);
+    page.put_line(b" at", &[place]);
+    tell_text(rt, page.text());
     Outcome::Refused
-}
-
-fn written(rt: &(impl Print + Eprint), file: [u8; HELD_BYTES], bytes: usize) -> Outcome {
-    if print(rt, &NAME, &file, bytes) {
-        return Outcome::Done;
-    }
-    Outcome::Fault
 }
 
 fn rewritten(
     rt: &(impl Print + Eprint),
-    file: [u8; HELD_BYTES],
-    held: usize,
+    file: &[u8],
     after: usize,
-) -> Outcome
-    requires { IsPrefixLen held file }
-{
-    let reading = read_prefix(&file[..held], after);
+    room: &mut [u8],
+) -> Result<Outcome, Fault> {
+    let reading = read_prefix(file, after);
     let number = reading.number;
     let place = reading.place;
     if number != 0 {
-        return refused(rt, number, place);
+        return Ok(refused(rt, number, place));
     }
-    let mut room = file;
-    match write_round(reading.round, &mut room[..held]) {
-        WriteAnswer::Written => written(rt, room, held),
-        WriteAnswer::Refused(number) => refused(rt, number, place),
+    match write_round(reading.round, room) {
+        Ok(()) => {
+            print(rt, &NAME, room)?;
+            Ok(Outcome::Done)
+        }
+        Err(refusal) => Ok(refused(rt, refusal.number(), place)),
     }
 }
 
-fn run(rt: &(impl Input + Print + Eprint)) -> Outcome {
+fn run(rt: &(impl Input + Print + Eprint)) -> Result<Outcome, Fault> {
     let mut file = [0u8; HELD_BYTES];
-    let got = read_first(rt, &NAME, &mut file);
-    if got.failed {
-        return Outcome::Fault;
-    }
-    rewritten(rt, file, got.bytes, got.after)
+    let First { bytes, after } = read_first(rt, &NAME, &mut file)?;
+    let mut room = file;
+    rewritten(rt, &file[..bytes], after, &mut room[..bytes])
 }
 
 fn main(rt: HostRuntime) {
-    let call = called(&rt, &NAME, true);
-    if call.sound {
+    if let Some(call) = called(&rt, &NAME, true) {
         end(&rt, &NAME, call, run(&rt));
     }
 }

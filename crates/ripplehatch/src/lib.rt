@@ -6,53 +6,28 @@
 #![tactic(auto)]
 
 ghost use Rattle.std.specs.Prelude.{◌≡◌, ◌*◌, length};
+ghost use Rattle.causes.specs.Refusal.{number_of};
 ghost use Rattle.allsix.specs.Six.{answer_six, six_told};
 ghost use Rattle.cutting.specs.Rounds.{round_count};
 ghost use Rattle.hands.specs.Hand.{hand_refusal};
 ghost use Rattle.filing.specs.Filed.{file_take_refusal, file_takes, finished_told, rewrite_refusal, rewrite_list};
-ghost use Rattle.names.specs.Five.{answer_five, five_number};
-ghost use Rattle.names.specs.Lo.{answer_lo, lo_high, lo_number};
-ghost use Rattle.pool.specs.Pool.{share_answer, share_list, number_of};
+ghost use Rattle.names.specs.Five.{answer_five};
+ghost use Rattle.names.specs.Lo.{answer_lo, lo_high};
+ghost use Rattle.pool.specs.Pool.{share_answer, share_list};
 ghost use Rattle.reading.specs.File.{read_file, refused_part};
 ghost use Rattle.settlement.specs.Settle.{file_answer, file_list, file_number};
 ghost use Rattle.shifts.specs.Shift.{round_amounts, round_answer, lists_fit, shift_refusal, shift_answer, shift_list, rounds_told, place_told as shift_place_told};
 ghost use Rattle.ripplehatch.specs.Told.{full_told, paid_told, place_told, name_told, lo_told};
 
 use allsix::name_six_told;
+use causes::number_of;
 use cutting::count_rounds;
 use filing::{rewrite_told, take_told};
-use names::{FiveAnswer, LoAnswer, LoName, five_place, name_five, name_lo};
-use pool::{Shared, share};
+use names::{LoName, five_place, name_five, name_lo};
+use pool::share;
 use reading::{read_file, refused_part};
-use settlement::{FileSettlement, file_number, settle_file};
+use settlement::settle_file;
 use shifts::settle_told;
-
-fn full_told(answer: FileSettlement, was: u64) -> u64
-    ensures { result ≡ full_told answer was }
-{
-    match answer {
-        FileSettlement::Paid { full, paid } => full,
-        FileSettlement::Refused { number, place } => was,
-    }
-}
-
-fn paid_told(answer: FileSettlement, was: u64) -> u64
-    ensures { result ≡ paid_told answer was }
-{
-    match answer {
-        FileSettlement::Paid { full, paid } => paid,
-        FileSettlement::Refused { number, place } => was,
-    }
-}
-
-fn place_told(answer: FileSettlement, was: usize) -> usize
-    ensures { result ≡ place_told answer was }
-{
-    match answer {
-        FileSettlement::Paid { full, paid } => was,
-        FileSettlement::Refused { number, place } => place,
-    }
-}
 
 // Settles a file into a list of 35 numbers. Answers 0 and tells the pool in dollars, full and as paid; or answers the refusal's number and tells its
 // place.
@@ -69,11 +44,17 @@ pub fn ripplehatch_settle_file(
     ensures paid { paid.new ≡ paid_told (file_answer file.now (length results.old)) paid.old }
     ensures place { place.new ≡ place_told (file_answer file.now (length results.old)) place.old }
 {
-    let answer = settle_file(file, results);
-    *full = full_told(answer, *full);
-    *paid = paid_told(answer, *paid);
-    *place = place_told(answer, *place);
-    file_number(answer)
+    match settle_file(file, results) {
+        Ok(settled) => {
+            *full = settled.full;
+            *paid = settled.paid;
+            0
+        }
+        Err(faulty) => {
+            *place = faulty.place;
+            faulty.number
+        }
+    }
 }
 
 // The byte of the file at which its refused part begins, and how long it is: 16 for a refused record, the odd bytes for 2, else 0, at the end.
@@ -128,40 +109,17 @@ pub fn ripplehatch_write(held: &[u8], room: &mut [u8]) -> u8
     rewrite_told(held, room)
 }
 
-fn hand_number(answer: FiveAnswer) -> u8
-    ensures { result ≡ five_number answer }
-{
-    match answer {
-        FiveAnswer::Name(name) => 0,
-        FiveAnswer::Refused(number) => number,
-    }
-}
-
-fn name_told(answer: FiveAnswer, was: usize) -> usize
-    ensures { result ≡ name_told answer was }
-{
-    match answer {
-        FiveAnswer::Name(name) => five_place(name),
-        FiveAnswer::Refused(number) => was,
-    }
-}
-
 // Names five cards. Answers 0 and tells the name's place in the list of names, 0 for a royal flush to 10 for other; or answers 18 or 11.
 pub fn ripplehatch_name_five(cards: &[u8], name: &mut usize) -> u8
-    ensures number { result ≡ five_number (answer_five cards.now) }
+    ensures number { result ≡ number_of (answer_five cards.now) }
     ensures name { name.new ≡ name_told (answer_five cards.now) name.old }
 {
-    let answer = name_five(cards);
-    *name = name_told(answer, *name);
-    hand_number(answer)
-}
-
-fn lo_number(answer: LoAnswer) -> u8
-    ensures { result ≡ lo_number answer }
-{
-    match answer {
-        LoAnswer::Name(name) => 0,
-        LoAnswer::Refused(number) => number,
+    match name_five(cards) {
+        Ok(hand) => {
+            *name = five_place(hand);
+            0
+        }
+        Err(refusal) => refusal.number(),
     }
 }
 
@@ -174,23 +132,18 @@ fn lo_high(name: LoName) -> usize
     }
 }
 
-fn lo_told(answer: LoAnswer, was: usize) -> usize
-    ensures { result ≡ lo_told answer was }
-{
-    match answer {
-        LoAnswer::Name(name) => lo_high(name),
-        LoAnswer::Refused(number) => was,
-    }
-}
-
 // Names five cards for Lo Ball. Answers 0 and tells the high rank, 0 for a two to 12 for an ace, or 13 for nothing; or answers 18 or 11.
 pub fn ripplehatch_name_lo(cards: &[u8], high: &mut usize) -> u8
-    ensures number { result ≡ lo_number (answer_lo cards.now) }
+    ensures number { result ≡ number_of (answer_lo cards.now) }
     ensures high { high.new ≡ lo_told (answer_lo cards.now) high.old }
 {
-    let answer = name_lo(cards);
-    *high = lo_told(answer, *high);
-    lo_number(answer)
+    match name_lo(cards) {
+        Ok(low) => {
+            *high = lo_high(low);
+            0
+        }
+        Err(refused) => refused.number(),
+    }
 }
 
 // Names six cards for All-Six. Answers 0 and tells the name's place: 0 for nine to ace of diamonds, 1 for nine to ace of another suit, 2 for a royal flush to 12 for
@@ -202,20 +155,10 @@ pub fn ripplehatch_name_six(cards: &[u8], name: &mut usize) -> u8
     name_six_told(cards, name)
 }
 
-fn share_number(answer: Shared) -> u8
-    ensures { result ≡ number_of answer }
-{
-    match answer {
-        Shared::Full => 0,
-        Shared::Cut => 0,
-        Shared::Refused(number) => number,
-    }
-}
-
 // Shares a maximum among up to seven wins, into a list as long: in full, or to exactly the maximum. Answers 0, or 19 or 20.
 pub fn ripplehatch_share(wins: &[u64], maximum: u64, shares: &mut [u64]) -> u8
     ensures number { result ≡ number_of (share_answer wins.now maximum (length shares.old)) }
     ensures list { shares.new ≡ share_list wins.now maximum shares.old }
 {
-    share_number(share(wins, maximum, shares))
+    number_of(share(wins, maximum, shares))
 }

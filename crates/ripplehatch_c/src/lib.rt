@@ -5,13 +5,14 @@
 #![tactic(auto)]
 
 ghost use Rattle.std.specs.Prelude.{◌≡◌, ◌*◌, length};
+ghost use Rattle.causes.specs.Refusal.{number_of};
 ghost use Rattle.allsix.specs.Six.{answer_six, six_told};
 ghost use Rattle.cutting.specs.Rounds.{round_count};
 ghost use Rattle.hands.specs.Hand.{hand_refusal};
 ghost use Rattle.filing.specs.Filed.{file_take_refusal, file_takes, finished_told, rewrite_refusal, rewrite_list};
-ghost use Rattle.names.specs.Five.{answer_five, five_number};
-ghost use Rattle.names.specs.Lo.{answer_lo, lo_number};
-ghost use Rattle.pool.specs.Pool.{share_answer, share_list, number_of};
+ghost use Rattle.names.specs.Five.{answer_five};
+ghost use Rattle.names.specs.Lo.{answer_lo};
+ghost use Rattle.pool.specs.Pool.{share_answer, share_list};
 ghost use Rattle.reading.specs.File.{read_file, refused_part};
 ghost use Rattle.settlement.specs.Settle.{file_answer, file_list, file_number};
 ghost use Rattle.shifts.specs.Shift.{round_amounts, round_answer, lists_fit, shift_refusal, shift_answer, shift_list, rounds_told, place_told as shift_place_told};
@@ -94,7 +95,7 @@ pub extern "C" fn ripplehatch_write(held: &[u8], room: &mut [u8]) -> u8
 // Names five cards. Answers 0 and tells the name's place in the list of names, 0 for a royal flush to 10 for other; or answers 18 or 11.
 #[unsafe(no_mangle)]
 pub extern "C" fn ripplehatch_name_five(cards: &[u8], name: &mut usize) -> u8
-    ensures number { result ≡ five_number (answer_five cards.now) }
+    ensures number { result ≡ number_of (answer_five cards.now) }
     ensures name { name.new ≡ name_told (answer_five cards.now) name.old }
 {
     ripplehatch::ripplehatch_name_five(cards, name)
@@ -103,7 +104,7 @@ pub extern "C" fn ripplehatch_name_five(cards: &[u8], name: &mut usize) -> u8
 // Names five cards for Lo Ball. Answers 0 and tells the high rank, 0 for a two to 12 for an ace, or 13 for nothing; or answers 18 or 11.
 #[unsafe(no_mangle)]
 pub extern "C" fn ripplehatch_name_lo(cards: &[u8], high: &mut usize) -> u8
-    ensures number { result ≡ lo_number (answer_lo cards.now) }
+    ensures number { result ≡ number_of (answer_lo cards.now) }
     ensures high { high.new ≡ lo_told (answer_lo cards.now) high.old }
 {
     ripplehatch::ripplehatch_name_lo(cards, high)

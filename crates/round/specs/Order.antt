@@ -1,12 +1,25 @@
 -- The round in progress, and which kind of record may come.
 -- Assumes nothing.
-use Rattle.std.specs.Prelude.{ℕ, Bool, false, not, ◌&&◌, eqb, ltb, if◌then◌else◌}
+use Rattle.std.specs.Prelude.{ℕ, Bool, false, not, ◌&&◌, ◌||◌, eqb, ltb, if◌then◌else◌}
 use Rattle.records.specs.Seats.{any_plays}
 use Rattle.seating.specs.Table.{no_table, has_table}
 use Rattle.seating.specs.Seat.{no_wagers}
 use Rattle.dealing.specs.Part.{no_deck}
 use Rattle.choosing.specs.Streets.{no_play, streets_over}
 use Rattle.round.specs.declared.Round.{Round}
+use Rattle.round.specs.declared.Kind.{Kind}
+use Rattle.round.specs.declared.Kind.TheVariants.{Table, Seat, Deck, Choice}
+
+-- the four kinds of record, by number: the first byte of each record
+abbrev pub kind_number : Kind → ℕ
+kind_number Table = 1
+kind_number Seat = 2
+kind_number Deck = 3
+kind_number Choice = 4
+
+-- some kind has this number
+abbrev pub is_kind : ℕ → Bool
+is_kind n = (eqb n 1 || eqb n 2) || (eqb n 3 || eqb n 4)
 
 -- the fresh round: parts not yet filled are zero
 abbrev pub fresh_round : Round

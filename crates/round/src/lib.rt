@@ -6,10 +6,14 @@
 
 #![tactic(auto)]
 
-ghost use Rattle.std.specs.Prelude.{◌≡◌};
-ghost use Rattle.round.specs.Order.{fresh_round, is_playing, is_finished, may_come};
+ghost use Rattle.std.specs.Prelude.{◌≡◌, false, MatchResult};
+ghost use Rattle.causes.specs.Refusal.{number_of as refused_number};
+ghost use Rattle.causes.specs.declared.Refusal.TheVariants.{OutOfPlace};
+ghost use Rattle.records.specs.Bytes.{byte};
+ghost use Rattle.round.specs.Order.{is_kind, kind_number, fresh_round, is_playing, is_finished, may_come};
 ghost use Rattle.round.specs.Feed.{kind_refusal, refusal, next, refused, accepted, feed, number_of};
 
+use causes::Refusal;
 use choosing::Play;
 use dealing::Deck;
 use records::{any_plays, byte_at};
@@ -21,6 +25,15 @@ pub struct Round {
     pub wagers: Wagers,
     pub deck: Deck,
     pub play: Play,
+}
+
+// What a record says: its first byte is the kind's number, 1 to 4.
+#[derive(Clone, Copy)]
+enum Kind {
+    Table,
+    Seat,
+    Deck,
+    Choice,
 }
 
 // The answer to a record.
@@ -38,22 +51,31 @@ pub struct Step {
     pub round: Round,
 }
 
+impl TryFrom<u8> for Kind {
+    // A record of no kind can't come.
+    type Error = Refusal;
+
+    ghost try_from_gives = { λ number answer. MatchResult answer (λ kind. kind_number kind ≡ number) (λ refusal. (refusal ≡ OutOfPlace) × (is_kind number ≡ false)) };
+
+    fn try_from(number: u8) -> Result<Kind, Refusal> {
+        match number {
+            1 => Ok(Kind::Table),
+            2 => Ok(Kind::Seat),
+            3 => Ok(Kind::Deck),
+            4 => Ok(Kind::Choice),
+            _ => Err(Refusal::OutOfPlace),
+        }
+    }
+}
+
 impl Round {
     // The round before its first record.
     pub fn fresh() -> Round
         ensures { result ≡ fresh_round }
     {
-        let none = [0u16; 7];
+        let none = [0; 7];
         Round {
-            table: Table {
-                smallest: 0,
-                largest: 0,
-                base: 0,
-                lo: 0,
-                board: 0,
-                pocket: 0,
-                six: 0,
-            },
+            table: Table::default(),
             wagers: Wagers {
                 antes: none,
                 board: none,
@@ -62,12 +84,12 @@ impl Round {
                 six: none,
             },
             deck: Deck {
-                cards: [0u8; 52],
+                cards: [0; 52],
                 parts: 0,
             },
             play: Play {
-                raises: [0u8; 21],
-                folds: [0u8; 7],
+                raises: [0; 21],
+                folds: [0; 7],
             },
         }
     }
@@ -76,8 +98,7 @@ impl Round {
     fn is_playing(self) -> bool
         ensures { result ≡ is_playing self }
     {
-        let antes = self.wagers.antes;
-        self.play.streets_over(antes) < 3
+        self.play.streets_over(self.wagers.antes) < 3
     }
 
     // After street three, or when no seat is still in.
@@ -88,68 +109,60 @@ impl Round {
     }
 
     // A record of this kind may come here.
-    fn may_come(self, kind: u8) -> bool
-        ensures { result ≡ may_come self kind }
+    #[tactic(auto, unfolding(crate::specs::Order::may_come))]
+    fn may_come(self, kind: Kind) -> bool
+        ensures { result ≡ may_come self (kind_number kind) }
     {
         match kind {
-            1 => !self.table.is_read(),
-            2 => self.table.is_read() & (self.deck.parts == 0),
-            3 => {
-                let antes = self.wagers.antes;
-                any_plays(antes) & (self.deck.parts < 4)
-            }
-            4 => (self.deck.parts == 4) & self.is_playing(),
-            _ => false,
+            Kind::Table => !self.table.is_read(),
+            Kind::Seat => self.table.is_read() & (self.deck.parts == 0),
+            Kind::Deck => any_plays(self.wagers.antes) & (self.deck.parts < 4),
+            Kind::Choice => (self.deck.parts == 4) & self.is_playing(),
         }
     }
 
-    // The refusal of what a record says, by its kind, 0 for none.
-    fn kind_refusal(self, bytes: &[u8]) -> u8
-        ensures { result ≡ kind_refusal self bytes.now }
+    // The refusal of what a record of this kind says.
+    #[tactic(auto, unfolding(crate::specs::Feed::kind_refusal))]
+    fn kind_refusal(self, kind: Kind, bytes: &[u8]) -> Result<(), Refusal>
+        requires { byte bytes.now 0 ≡ kind_number kind }
+        ensures { refused_number result ≡ kind_refusal self bytes.now }
     {
-        match byte_at(bytes, 0) {
-            1 => table_refusal(bytes),
-            2 => self.wagers.seat_refusal(self.table, bytes),
-            3 => self.deck.part_refusal(bytes),
-            _ => {
-                let antes = self.wagers.antes;
-                self.play.choice_refusal(antes, bytes)
-            }
+        match kind {
+            Kind::Table => table_refusal(bytes),
+            Kind::Seat => self.wagers.seat_refusal(self.table, bytes),
+            Kind::Deck => self.deck.part_refusal(bytes),
+            Kind::Choice => self.play.choice_refusal(self.wagers.antes, bytes),
         }
     }
 
-    // The refusal of a record, the lowest number that applies, 0 for none.
-    pub fn refusal(self, bytes: &[u8]) -> u8
-        ensures { result ≡ refusal self bytes.now }
+    // The refusal of a record, the lowest number that applies.
+    #[tactic(auto, unfolding(crate::specs::Feed::refusal, crate::specs::Order::may_come))]
+    pub fn refusal(self, bytes: &[u8]) -> Result<(), Refusal>
+        ensures { refused_number result ≡ refusal self bytes.now }
     {
         if bytes.len() != 16 {
-            return 2;
+            return Err(Refusal::RecordLength);
         }
-        if !self.may_come(byte_at(bytes, 0)) {
-            return 3;
+        let kind = Kind::try_from(byte_at(bytes, 0))?;
+        if !self.may_come(kind) {
+            return Err(Refusal::OutOfPlace);
         }
-        self.kind_refusal(bytes)
+        self.kind_refusal(kind, bytes)
     }
 
-    // The round with what a record says, by its kind; whether the record is refused is for `refusal` to say.
+    // The round with what a record says, by its kind; whether the record is refused is for `refusal` to say. A record of no kind is taken as a choice.
+    #[tactic(auto, unfolding(crate::specs::Feed::next))]
     pub fn next(mut self, bytes: &[u8]) -> Round
         ensures { result ≡ next self bytes.now }
     {
-        let kind = byte_at(bytes, 0);
-        if kind == 1 {
-            self.table = table_of(bytes);
-            return self;
+        match Kind::try_from(byte_at(bytes, 0)) {
+            Ok(Kind::Table) => self.table = table_of(bytes),
+            Ok(Kind::Seat) => self.wagers = self.wagers.with_seat(bytes),
+            Ok(Kind::Deck) => self.deck = self.deck.with_part(bytes),
+            Ok(Kind::Choice) | Err(_) => self.play = self
+                .play
+                .with_choice(self.wagers.antes, bytes),
         }
-        if kind == 2 {
-            self.wagers = self.wagers.with_seat(bytes);
-            return self;
-        }
-        if kind == 3 {
-            self.deck = self.deck.with_part(bytes);
-            return self;
-        }
-        let antes = self.wagers.antes;
-        self.play = self.play.with_choice(antes, bytes);
         self
     }
 
@@ -157,14 +170,13 @@ impl Round {
     fn accept(self) -> Step
         ensures { result ≡ accepted self }
     {
-        if self.is_finished() {
-            return Step {
-                answer: Answer::Finished,
-                round: self,
-            };
-        }
+        let answer = if self.is_finished() {
+            Answer::Finished
+        } else {
+            Answer::Next
+        };
         Step {
-            answer: Answer::Next,
+            answer,
             round: self,
         }
     }
@@ -180,15 +192,14 @@ impl Round {
     }
 
     // Takes a record: the next round, the finished round, or a refusal.
-    pub fn feed(mut self, bytes: &[u8]) -> Step
+    #[tactic(auto, unfolding(crate::specs::Feed::feed))]
+    pub fn feed(self, bytes: &[u8]) -> Step
         ensures answer { result ≡ feed self bytes.now }
         ensures number { number_of result.answer ≡ refusal self bytes.now }
     {
-        let number = self.refusal(bytes);
-        if number != 0 {
-            return self.refuse(number);
+        match self.refusal(bytes) {
+            Ok(()) => self.next(bytes).accept(),
+            Err(refusal) => self.refuse(refusal.number()),
         }
-        self = self.next(bytes);
-        self.accept()
     }
 }

@@ -17,208 +17,123 @@
 
 #![tactic(auto)]
 
-ghost use Rattle.std.specs.Prelude.{◌*◌, ◌≤◌, ◌≡◌, length};
+ghost use Rattle.std.specs.Prelude.{◌*◌, ◌≤◌, length};
 
 use digits::{put_digits, put_records};
-use pipes::{Outcome, called, end, print, read_into, tell, tell_unread};
+use pipes::{Fault, Outcome, called, end, print, read_next, read_whole, take_turns};
 use reading::refused_part;
 use records::{byte_at, word_at};
 use results::RESULTS;
 use ripplehatch::{ripplehatch_refused_part, ripplehatch_take, ripplehatch_write};
-use settlement::{FileSettlement, settle_file};
-use text::{put_bytes, put_list, put_named};
+use settlement::settle_file;
+use text::Page;
 
 const NAME: [u8; 6] = *b"rounds";
-
-// Every loop must end: this one after 2^40 files.
-const MOST_FILES: usize = 1099511627776;
 
 // The bytes of 33 records.
 const FILE: usize = 528;
 
-// What became of one turn.
-#[derive(Clone, Copy)]
-enum Turn {
-    Answered,
-    End,
-    Fault,
-}
-
-// The length of the next file, where there is one.
-#[derive(Clone, Copy)]
-enum Next {
-    Long(u16),
-    End,
-    Fault,
-}
-
-fn put_paid(line: &mut [u8], amounts: [u64; RESULTS], full: u64, paid: u64) -> usize {
-    let listed = put_list(line, 0, b"paid", &amounts);
-    put_list(line, listed, b" pool", &[full, paid])
-}
-
-fn put_refused(line: &mut [u8], number: u8, place: usize) -> usize {
-    let numbered = put_named(line, 0, b"refused ", number as u64);
-    put_named(line, numbered, b" at ", place as u64)
-}
-
-fn put_refusal(line: &mut [u8], at: usize, number: u8) -> usize {
-    put_named(line, at, b" written refused ", number as u64)
-}
-
-fn put_settled(line: &mut [u8], file: &[u8]) -> usize {
+fn put_settled(page: &mut Page<'_>, file: &[u8]) {
     let mut amounts = [0u64; RESULTS];
     match settle_file(file, &mut amounts) {
-        FileSettlement::Paid { full, paid } => put_paid(line, amounts, full, paid),
-        FileSettlement::Refused { number, place } => put_refused(line, number, place),
+        Ok(pool) => {
+            page.put_list(b"paid", &amounts);
+            page.put_list(b" pool", &[pool.full, pool.paid]);
+        }
+        Err(faulty) => {
+            page.put_named(b"refused ", faulty.number);
+            page.put_named(b" at ", faulty.place);
+        }
     }
 }
 
-fn put_part(line: &mut [u8], at: usize, begins: usize, part: &[u8]) -> usize {
-    let begun = put_named(line, at, b" part ", begins as u64);
-    if part.len() == 0 {
-        return begun;
-    }
-    let spaced = put_bytes(line, begun, b" ");
-    put_digits(line, spaced, part)
-}
-
-// The byte at which the refused part begins.
-fn begins(file: &[u8]) -> usize {
+// The byte at which the refused part begins, and its bytes.
+fn put_part(page: &mut Page<'_>, file: &[u8]) {
     let mut long = 0;
-    ripplehatch_refused_part(file, &mut long)
+    page.put_named(b" part ", ripplehatch_refused_part(file, &mut long));
+    let part = refused_part(file);
+    if !part.is_empty() {
+        page.put(b" ");
+        put_digits(page, part);
+    }
 }
 
 // Where the last record begins, or the odd bytes at the end; 0 for the empty file.
 fn last_of(bytes: usize) -> usize
     ensures { result ≤ bytes }
 {
-    if bytes == 0 {
-        return 0;
-    }
-    16 * ((bytes - 1) / 16)
+    16 * (bytes.saturating_sub(1) / 16)
 }
 
-fn put_taken(line: &mut [u8], at: usize, file: &[u8]) -> usize {
-    let last = last_of(file.len());
+fn put_taken(page: &mut Page<'_>, file: &[u8]) {
+    let (held, last) = file.split_at(last_of(file.len()));
     let mut finished = 0;
-    let number = ripplehatch_take(&file[..last], &file[last..], &mut finished);
-    if number != 0 {
-        return put_named(line, at, b" take refused ", number as u64);
+    match ripplehatch_take(held, last, &mut finished) {
+        0 if finished == 0 => page.put(b" take next"),
+        0 => page.put(b" take finished"),
+        number => page.put_named(b" take refused ", number),
     }
-    if finished == 0 {
-        return put_bytes(line, at, b" take next");
-    }
-    put_bytes(line, at, b" take finished")
 }
 
 // How many first records of the file stand as they came in what was written of it.
 fn same_records(file: &[u8], written: &[u8]) -> usize
     ensures { 16 * result ≤ length written.now }
 {
-    let mut i = 0;
-    while i < written.len() {
-        if byte_at(file, i) != written[i] {
+    for (i, byte) in written.iter().enumerate() {
+        if byte_at(file, i) != *byte {
             return i / 16;
         }
-        i += 1;
     }
-    i / 16
+    written.len() / 16
 }
 
-fn put_written(line: &mut [u8], at: usize, file: &[u8], written: &[u8]) -> usize {
+fn put_written(page: &mut Page<'_>, file: &[u8], written: &[u8]) {
     let same = same_records(file, written);
-    let counted = put_named(line, at, b" written ", same as u64);
-    let from = 16 * same;
-    put_records(line, counted, &written[from..])
+    page.put_named(b" written ", same);
+    put_records(page, &written[16 * same..]);
 }
 
 // Into a room of 33 records: a longer file is none of accepted records.
-fn put_rewritten(line: &mut [u8], at: usize, file: &[u8]) -> usize {
+fn put_rewritten(page: &mut Page<'_>, file: &[u8]) {
     let mut room = [0u8; FILE];
-    if FILE < file.len() {
-        return put_refusal(line, at, ripplehatch_write(file, &mut room));
+    let lent: &mut [u8] = &mut room[..file.len().min(FILE)];
+    match ripplehatch_write(file, lent) {
+        0 => put_written(page, file, lent),
+        number => page.put_named(b" written refused ", number),
     }
-    let lent: &mut [u8] = &mut room[..file.len()];
-    let number = ripplehatch_write(file, lent);
-    if number != 0 {
-        return put_refusal(line, at, number);
-    }
-    put_written(line, at, file, lent)
 }
 
 // A line is at most 35 amounts of 20 digits, the pool, a part of 16 bytes and 33 records, so it fits its room.
-fn write_answer(rt: &(impl Print + Eprint), file: &[u8]) -> Turn {
+fn write_answer(rt: &(impl Print + Eprint), file: &[u8]) -> Result<(), Fault> {
     let mut line = [0u8; 2048];
-    let settled = put_settled(&mut line, file);
-    let part = put_part(&mut line, settled, begins(file), refused_part(file));
-    let taken = put_taken(&mut line, part, file);
-    let written = put_rewritten(&mut line, taken, file);
-    let last = put_bytes(&mut line, written, b"\n");
-    if print(rt, &NAME, &line, last) {
-        return Turn::Answered;
-    }
-    Turn::Fault
+    let mut page = Page::new(&mut line);
+    put_settled(&mut page, file);
+    put_part(&mut page, file);
+    put_taken(&mut page, file);
+    put_rewritten(&mut page, file);
+    page.put(b"\n");
+    print(rt, &NAME, page.text())
 }
 
-fn next_length(rt: &(impl Input + Eprint)) -> Next {
+// Answers the next file, where there is one.
+fn answer_next(rt: &(impl Input + Print + Eprint)) -> Result<bool, Fault> {
     let mut length = [0u8; 2];
-    let got = read_into(rt, &mut length);
-    if got.failed {
-        tell_unread(rt, &NAME, got.reason);
-        return Next::Fault;
+    if !read_next(rt, &NAME, &mut length, b"the stream ends inside a length")? {
+        return Ok(false);
     }
-    if got.bytes == 1 {
-        tell(rt, &NAME, b"the stream ends inside a length");
-        return Next::Fault;
-    }
-    if got.bytes == 0 {
-        return Next::End;
-    }
-    Next::Long(word_at(&length, 0))
-}
-
-// Reads a file that fills the list, and answers it.
-fn answer_file(rt: &(impl Input + Print + Eprint), file: &mut [u8]) -> Turn {
-    let got = read_into(rt, file);
-    if got.failed {
-        tell_unread(rt, &NAME, got.reason);
-        return Turn::Fault;
-    }
-    if got.bytes < file.len() {
-        tell(rt, &NAME, b"the stream ends inside a file");
-        return Turn::Fault;
-    }
-    write_answer(rt, file)
-}
-
-fn answer_next(rt: &(impl Input + Print + Eprint), room: &mut [u8]) -> Turn
-    requires { length room.old ≡ 65536 }
-{
-    match next_length(rt) {
-        Next::Long(n) => answer_file(rt, &mut room[0..n as usize]),
-        Next::End => Turn::End,
-        Next::Fault => Turn::Fault,
-    }
-}
-
-fn answer_all(rt: &(impl Input + Print + Eprint)) -> Outcome {
     let mut room = [0u8; 65536];
-    let mut files = 0;
-    while files < MOST_FILES {
-        match answer_next(rt, &mut room) {
-            Turn::Answered => {}
-            Turn::End => return Outcome::Done,
-            Turn::Fault => return Outcome::Fault,
-        }
-        files += 1;
-    }
-    Outcome::Done
+    let file: &mut [u8] = &mut room[..word_at(&length, 0) as usize];
+    read_whole(rt, &NAME, file, b"the stream ends inside a file")?;
+    write_answer(rt, file)?;
+    Ok(true)
+}
+
+fn run(rt: &(impl Input + Print + Eprint)) -> Result<Outcome, Fault> {
+    take_turns(|| answer_next(rt))
 }
 
 fn main(rt: HostRuntime) {
-    let call = called(&rt, &NAME, true);
-    if call.sound {
-        end(&rt, &NAME, call, answer_all(&rt));
+    if let Some(call) = called(&rt, &NAME, true) {
+        end(&rt, &NAME, call, run(&rt));
     }
 }

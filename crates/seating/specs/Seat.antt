@@ -6,6 +6,7 @@ use Rattle.records.specs.Bytes.{byte, word, zero_from, between}
 use Rattle.records.specs.Seats.{place, plays}
 use Rattle.seating.specs.declared.Table.{Table}
 use Rattle.seating.specs.declared.Wagers.{Wagers}
+use Rattle.seating.specs.declared.SeatWagers.{SeatWagers}
 use Rattle.seating.specs.Table.{has_table}
 
 -- An ante lies between the two limits, ends included.
@@ -42,6 +43,14 @@ seat_refusal t w b =
     else if not (ante_fits t (word b 2)) then 8
     else if not (sides_fit t (word b 4) (word b 6) (word b 8) (word b 10)) then 9
     else 0
+
+-- what a seat record says of the seat's wagers
+abbrev pub seat_of : List ℕ → SeatWagers
+seat_of b = record { ante = word b 2; board = word b 4; pocket = word b 6; lo = word b 8; six = word b 10 }
+
+-- what the seat at place k has wagered
+abbrev pub seat_at : Wagers → ℕ → SeatWagers
+seat_at w k = record { ante = get_or w.antes k 0; board = get_or w.board k 0; pocket = get_or w.pocket k 0; lo = get_or w.lo k 0; six = get_or w.six k 0 }
 
 -- 2, seat: byte 1 seat; from byte 2, two bytes each: ante, Board, Pocket, Lo Ball, All-Six.
 abbrev pub with_seat : Wagers → List ℕ → Wagers

@@ -1,6 +1,6 @@
 // The table and its seats: the posted limits, the numbers of the pay tables, and what each seat wagers.
 //
-// A table record and a seat record are each answered here by the number of their refusal and by what they make of the table or
+// A table record and a seat record are each answered here by their refusal and by what they make of the table or
 // the wagers; whether such a record may come is the round's to say. Each function answers for any table, any wagers and any
 // bytes. `fits` and `fit` are true of the tables and wagers that accepted records leave, and proofs/ shows it from both
 // sides: an accepted record keeps them true, and a table or wagers of which they are true are led to by their own records.
@@ -8,14 +8,15 @@
 #![tactic(auto)]
 
 ghost use Rattle.std.specs.Prelude.{◌≡◌};
-ghost use Rattle.records.specs.Bytes.{word};
+ghost use Rattle.causes.specs.Refusal.{number_of};
 ghost use Rattle.seating.specs.Table.{limits_fit, tables_fit, table_of, table_refusal, has_table, is_blank, table_fits};
-ghost use Rattle.seating.specs.Seat.{ante_fits, most_six, sides_fit, is_above, seat_rises, seat_refusal, with_seat, seat_fits, seats_fit};
+ghost use Rattle.seating.specs.Seat.{seat_of, seat_at, ante_fits, most_six, sides_fit, is_above, seat_rises, seat_refusal, with_seat, seat_fits, seats_fit};
 
-use counting::{at7, put7};
+use causes::Refusal;
+use counting::{at, put};
 use records::{byte_at, is_between, is_zero_from, place_of, word_at};
 
-#[derive(Clone, Copy)]
+#[derive(Clone, Copy, PartialEq, Eq, Debug, Default)]
 pub struct Table {
     pub smallest: u8,
     pub largest: u8,
@@ -36,6 +37,29 @@ pub struct Wagers {
     pub six: [u16; 7],
 }
 
+// What one seat wagers.
+#[derive(Clone, Copy, PartialEq, Eq, Debug, Default)]
+struct SeatWagers {
+    ante: u16,
+    board: u16,
+    pocket: u16,
+    lo: u16,
+    six: u16,
+}
+
+// What a seat record says.
+fn seat_of(bytes: &[u8]) -> SeatWagers
+    ensures { result ≡ seat_of bytes.now }
+{
+    SeatWagers {
+        ante: word_at(bytes, 2),
+        board: word_at(bytes, 4),
+        pocket: word_at(bytes, 6),
+        lo: word_at(bytes, 8),
+        six: word_at(bytes, 10),
+    }
+}
+
 // What a table record says.
 pub fn table_of(bytes: &[u8]) -> Table
     ensures { result ≡ table_of bytes.now }
@@ -51,30 +75,33 @@ pub fn table_of(bytes: &[u8]) -> Table
     }
 }
 
-// The refusal of what a table record says, 0 for none.
-pub fn table_refusal(bytes: &[u8]) -> u8
-    ensures { result ≡ table_refusal bytes.now }
+// The refusal of what a table record says.
+#[tactic(auto, unfolding(crate::specs::Table::table_refusal))]
+pub fn table_refusal(bytes: &[u8]) -> Result<(), Refusal>
+    ensures { number_of result ≡ table_refusal bytes.now }
 {
     if !is_zero_from(bytes, 8) {
-        return 4;
+        return Err(Refusal::ByteNotZero);
     }
     let table = table_of(bytes);
     if !table.limits_fit() {
-        return 5;
+        return Err(Refusal::AnteLimit);
     }
     if !table.tables_fit() {
-        return 6;
+        return Err(Refusal::NoPayTable);
     }
-    0
+    Ok(())
 }
 
 impl Table {
+    #[tactic(auto, unfolding(crate::specs::Table::limits_fit))]
     fn limits_fit(self) -> bool
         ensures { result ≡ limits_fit self }
     {
         is_between(5, 15, self.smallest) & is_between(25, 100, self.largest)
     }
 
+    #[tactic(auto, unfolding(crate::specs::Table::tables_fit))]
     fn tables_fit(self) -> bool
         ensures { result ≡ tables_fit self }
     {
@@ -83,13 +110,11 @@ impl Table {
         first & (second & (self.six <= 5))
     }
 
+    #[tactic(auto, unfolding(crate::specs::Table::is_blank))]
     fn is_blank(self) -> bool
         ensures { result ≡ is_blank self }
     {
-        let limits = (self.smallest == 0) & (self.largest == 0);
-        let first = (self.base == 0) & (self.lo == 0);
-        let second = (self.board == 0) & (self.pocket == 0);
-        (limits & first) & (second & (self.six == 0))
+        self == Table::default()
     }
 
     // The table record was read.
@@ -100,12 +125,14 @@ impl Table {
     }
 
     // No table yet, or one that no refusal is for.
+    #[tactic(auto, unfolding(crate::specs::Table::table_fits))]
     pub fn fits(self) -> bool
         ensures { result ≡ table_fits self }
     {
         self.is_blank() | (self.limits_fit() & self.tables_fit())
     }
 
+    // An ante lies between the limits.
     fn ante_fits(self, ante: u16) -> bool
         ensures { result ≡ ante_fits self ante }
     {
@@ -113,39 +140,24 @@ impl Table {
     }
 
     // The most that may be wagered on All-Six.
+    #[tactic(auto, unfolding(crate::specs::Seat::most_six))]
     fn most_six(self) -> u16
         ensures { result ≡ most_six self }
     {
         if self.six == 0 {
-            return 0;
+            0
+        } else {
+            self.largest as u16
         }
-        self.largest as u16
     }
 
-    fn sides_fit(self, board: u16, pocket: u16, lo: u16, six: u16) -> bool
-        ensures { result ≡ sides_fit self board pocket lo six }
+    // No side wager is above the largest ante, and none is on All-Six where it isn't offered.
+    fn sides_fit(self, seat: SeatWagers) -> bool
+        ensures { result ≡ sides_fit self seat.board seat.pocket seat.lo seat.six }
     {
         let most = self.largest as u16;
-        ((board <= most) & (pocket <= most)) & ((lo <= most) & (six <= self.most_six()))
-    }
-
-    // The record's ante lies between the limits.
-    fn takes_ante(self, bytes: &[u8]) -> bool
-        ensures { result ≡ ante_fits self (word bytes.now 2) }
-    {
-        self.ante_fits(word_at(bytes, 2))
-    }
-
-    // None of the record's side wagers is above the largest ante, and none is on All-Six where it isn't offered.
-    fn takes_sides(self, bytes: &[u8]) -> bool
-        ensures { result ≡ sides_fit self (word bytes.now 4) (word bytes.now 6) (word bytes.now 8) (word bytes.now 10) }
-    {
-        self.sides_fit(
-            word_at(bytes, 4),
-            word_at(bytes, 6),
-            word_at(bytes, 8),
-            word_at(bytes, 10),
-        )
+        ((seat.board <= most) & (seat.pocket <= most))
+            & ((seat.lo <= most) & (seat.six <= self.most_six()))
     }
 }
 
@@ -153,14 +165,7 @@ impl Table {
 fn is_above(antes: [u16; 7], seat: u8) -> bool
     ensures { result ≡ is_above antes seat }
 {
-    let mut k = 0;
-    while k < 7 {
-        if (antes[k] != 0) & (seat as usize <= k + 1) {
-            return false;
-        }
-        k += 1;
-    }
-    true
+    (0..7).all(|k| (antes[k] == 0) | (k + 1 < seat as usize))
 }
 
 // The record's seat is one of 1 to 7, above each that plays.
@@ -172,74 +177,69 @@ fn seat_rises(antes: [u16; 7], bytes: &[u8]) -> bool
 }
 
 impl Wagers {
-    // The refusal of what a seat record says, 0 for none.
-    pub fn seat_refusal(self, table: Table, bytes: &[u8]) -> u8
-        ensures { result ≡ seat_refusal table self bytes.now }
+    // The refusal of what a seat record says.
+    #[tactic(auto, unfolding(crate::specs::Seat::seat_refusal))]
+    pub fn seat_refusal(self, table: Table, bytes: &[u8]) -> Result<(), Refusal>
+        ensures { number_of result ≡ seat_refusal table self bytes.now }
     {
-        let antes = self.antes;
         if !is_zero_from(bytes, 12) {
-            return 4;
+            return Err(Refusal::ByteNotZero);
         }
-        if !seat_rises(antes, bytes) {
-            return 7;
+        if !seat_rises(self.antes, bytes) {
+            return Err(Refusal::SeatNumber);
         }
-        if !table.takes_ante(bytes) {
-            return 8;
+        let seat = seat_of(bytes);
+        if !table.ante_fits(seat.ante) {
+            return Err(Refusal::Ante);
         }
-        if !table.takes_sides(bytes) {
-            return 9;
+        if !table.sides_fit(seat) {
+            return Err(Refusal::SideWager);
         }
-        0
+        Ok(())
     }
 
     // The wagers with those of a seat record.
     pub fn with_seat(self, bytes: &[u8]) -> Wagers
         ensures { result ≡ with_seat self bytes.now }
     {
-        let at = place_of(byte_at(bytes, 1)) as usize;
-        let antes = self.antes;
-        let board = self.board;
-        let pocket = self.pocket;
-        let lo = self.lo;
-        let six = self.six;
+        let k = place_of(byte_at(bytes, 1)) as usize;
+        let seat = seat_of(bytes);
         Wagers {
-            antes: put7(antes, at, word_at(bytes, 2)),
-            board: put7(board, at, word_at(bytes, 4)),
-            pocket: put7(pocket, at, word_at(bytes, 6)),
-            lo: put7(lo, at, word_at(bytes, 8)),
-            six: put7(six, at, word_at(bytes, 10)),
+            antes: put(self.antes, k, seat.ante),
+            board: put(self.board, k, seat.board),
+            pocket: put(self.pocket, k, seat.pocket),
+            lo: put(self.lo, k, seat.lo),
+            six: put(self.six, k, seat.six),
+        }
+    }
+
+    // What the seat at place `k` has wagered.
+    fn seat_at(self, k: usize) -> SeatWagers
+        ensures { result ≡ seat_at self k }
+    {
+        SeatWagers {
+            ante: at(&self.antes, k, 0),
+            board: at(&self.board, k, 0),
+            pocket: at(&self.pocket, k, 0),
+            lo: at(&self.lo, k, 0),
+            six: at(&self.six, k, 0),
         }
     }
 
     // The seat at place `k` has wagered nothing, or within the limits of a table that was read.
+    #[tactic(auto, unfolding(crate::specs::Seat::no_wager, crate::specs::Seat::wagers_fit))]
     fn seat_fits(self, table: Table, k: usize) -> bool
         ensures { result ≡ seat_fits table self k }
     {
-        let antes = self.antes;
-        let board = self.board;
-        let pocket = self.pocket;
-        let lo = self.lo;
-        let six = self.six;
-        let a = at7(antes, k);
-        let b = at7(board, k);
-        let p = at7(pocket, k);
-        let l = at7(lo, k);
-        let s = at7(six, k);
-        let none = ((a == 0) & (b == 0)) & (((p == 0) & (l == 0)) & (s == 0));
-        none | (table.is_read() & (table.ante_fits(a) & table.sides_fit(b, p, l, s)))
+        let seat = self.seat_at(k);
+        (seat == SeatWagers::default())
+            | (table.is_read() & (table.ante_fits(seat.ante) & table.sides_fit(seat)))
     }
 
     // Each seat has wagered nothing, or within the limits of a table that was read.
     pub fn fit(self, table: Table) -> bool
         ensures { result ≡ seats_fit table self }
     {
-        let mut k = 0;
-        while k < 7 {
-            if !self.seat_fits(table, k) {
-                return false;
-            }
-            k += 1;
-        }
-        true
+        (0..7).all(|k| self.seat_fits(table, k))
     }
 }

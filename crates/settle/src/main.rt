@@ -18,13 +18,12 @@
 
 #![tactic(auto)]
 
-ghost use Rattle.std.specs.Prelude.{◌≤◌};
-ghost use Rattle.pipes.specs.Counts.{IsPrefixLen};
+ghost use Rattle.std.specs.Prelude.{◌≤◌, IfSome};
 
-use pipes::{Outcome, called, end, print, read_first};
+use pipes::{Fault, First, Outcome, called, end, print, read_first};
 use results::{RESULTS, SEAT_WAGERS};
-use settlement::{FileSettlement, settle_prefix};
-use text::{put_line, put_named};
+use settlement::{Faulty, Paid, settle_prefix};
+use text::Page;
 
 const NAME: [u8; 6] = *b"settle";
 
@@ -33,92 +32,67 @@ const HELD: usize = 34;
 
 const HELD_BYTES: usize = 16 * HELD;
 
-// The seat of a seat record, 0 for another record.
-fn seat_of(kind: u8, seat: u8) -> u8
-    ensures { result ≤ 7 }
+// The seat of a seat record, where it has one.
+fn seat_of(record: &[u8]) -> Option<usize>
+    ensures { IfSome result (λ seat. (1 ≤ seat) × (seat ≤ 7)) }
 {
-    if kind != 2 {
-        return 0;
+    match record {
+        [2, seat @ 1..=7, ..] => Some(*seat as usize),
+        _ => None,
     }
-    if 7 < seat {
-        return 0;
-    }
-    seat
 }
 
-// A seat's number and its amounts; nothing for no seat.
-fn put_seat(room: &mut [u8], at: usize, seat: u8, results: [u64; RESULTS]) -> usize
-    requires { seat ≤ 7 }
-{
-    if seat == 0 {
-        return at;
+// The playing seats are those that have a seat record, and these come by rising numbers. A seat's line has its number and its amounts.
+fn put_seats(page: &mut Page<'_>, file: &[u8], results: [u64; RESULTS]) {
+    for record in file.chunks_exact(16) {
+        if let Some(seat) = seat_of(record) {
+            let end = SEAT_WAGERS * seat;
+            page.put_number(seat);
+            page.put_line(b"", &results[end - SEAT_WAGERS..end]);
+        }
     }
-    let end = SEAT_WAGERS * (seat as usize);
-    let start = end - SEAT_WAGERS;
-    put_line(room, at, &[48 + seat], &results[start..end])
-}
-
-// The playing seats are those that have a seat record, and these come by rising numbers.
-fn put_seats(room: &mut [u8], file: [u8; HELD_BYTES], results: [u64; RESULTS]) -> usize {
-    let mut next = 0;
-    for i in 0..HELD {
-        let seat = seat_of(file[16 * i], file[16 * i + 1]);
-        next = put_seat(room, next, seat, results);
-    }
-    next
-}
-
-// Writes the answer, which ends at `last`: the outcome, or a fault where it can't be written.
-fn printed(rt: &(impl Print + Eprint), room: &[u8], last: usize, outcome: Outcome) -> Outcome {
-    if print(rt, &NAME, room, last) {
-        return outcome;
-    }
-    Outcome::Fault
 }
 
 // At most 34 lines of 107 bytes and one of 47, so they fit their room.
 fn print_paid(
     rt: &(impl Print + Eprint),
-    file: [u8; HELD_BYTES],
+    file: &[u8],
     results: [u64; RESULTS],
-    full: u64,
-    paid: u64,
-) -> Outcome {
+    pool: Paid,
+) -> Result<Outcome, Fault> {
     let mut room = [0u8; 4096];
-    let seats = put_seats(&mut room, file, results);
-    let last = put_line(&mut room, seats, b"pool", &[full, paid]);
-    printed(rt, &room, last, Outcome::Done)
+    let mut page = Page::new(&mut room);
+    put_seats(&mut page, file, results);
+    page.put_line(b"pool", &[pool.full, pool.paid]);
+    print(rt, &NAME, page.text())?;
+    Ok(Outcome::Done)
 }
 
-fn print_refused(rt: &(impl Print + Eprint), number: u8, place: usize) -> Outcome {
+fn print_refused(rt: &(impl Print + Eprint), faulty: Faulty) -> Result<Outcome, Fault> {
     let mut room = [0u8; 64];
-    let numbered = put_named(&mut room, 0, b"refused ", number as u64);
-    let last = put_line(&mut room, numbered, b" at", &[place as u64]);
-    printed(rt, &room, last, Outcome::Refused)
+    let mut page = Page::new(&mut room);
+    page.put_named(b"refused ", faulty.number);
+    page.put_line(b" at", &[faulty.place]);
+    print(rt, &NAME, page.text())?;
+    Ok(Outcome::Refused)
 }
 
-fn settled(rt: &(impl Print + Eprint), file: [u8; HELD_BYTES], held: usize, more: usize) -> Outcome
-    requires { IsPrefixLen held file }
-{
+fn settled(rt: &(impl Print + Eprint), file: &[u8], more: usize) -> Result<Outcome, Fault> {
     let mut results = [0u64; RESULTS];
-    match settle_prefix(&file[..held], more, &mut results) {
-        FileSettlement::Paid { full, paid } => print_paid(rt, file, results, full, paid),
-        FileSettlement::Refused { number, place } => print_refused(rt, number, place),
+    match settle_prefix(file, more, &mut results) {
+        Ok(pool) => print_paid(rt, file, results, pool),
+        Err(faulty) => print_refused(rt, faulty),
     }
 }
 
-fn run(rt: &(impl Input + Print + Eprint)) -> Outcome {
+fn run(rt: &(impl Input + Print + Eprint)) -> Result<Outcome, Fault> {
     let mut file = [0u8; HELD_BYTES];
-    let got = read_first(rt, &NAME, &mut file);
-    if got.failed {
-        return Outcome::Fault;
-    }
-    settled(rt, file, got.bytes, got.after)
+    let First { bytes, after } = read_first(rt, &NAME, &mut file)?;
+    settled(rt, &file[..bytes], after)
 }
 
 fn main(rt: HostRuntime) {
-    let call = called(&rt, &NAME, true);
-    if call.sound {
+    if let Some(call) = called(&rt, &NAME, true) {
         end(&rt, &NAME, call, run(&rt));
     }
 }

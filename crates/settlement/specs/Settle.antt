@@ -1,6 +1,8 @@
 -- What the entries answer, and what the lent list then holds.
 -- Assumes nothing.
-use Rattle.std.specs.Prelude.{ℕ, not, List, [], ◌∷◌, eqb, length, if◌then◌else◌}
+use Rattle.std.specs.Prelude.{ℕ, not, List, [], ◌∷◌, Result, Ok, Err, eqb, length, if◌then◌else◌}
+use Rattle.causes.specs.declared.Refusal.{Refusal}
+use Rattle.causes.specs.Refusal.{number, number_of, answered}
 use Rattle.counting.specs.Choose.{unless_refused}
 use Rattle.round.specs.declared.Round.{Round}
 use Rattle.round.specs.Order.{is_finished}
@@ -8,10 +10,8 @@ use Rattle.led.specs.Held.{is_held}
 use Rattle.reading.specs.declared.Reading.{Reading}
 use Rattle.reading.specs.File.{read_file, read_prefix}
 use Rattle.results.specs.Results.{pool, results_long, results}
-use Rattle.settlement.specs.declared.Settlement.{Settlement}
-use Rattle.settlement.specs.declared.Settlement.TheVariants.{Paid, Refused}
-use Rattle.settlement.specs.declared.FileSettlement.{FileSettlement}
-use Rattle.settlement.specs.declared.FileSettlement.TheVariants.{Paid as PaidFile, Refused as RefusedFile}
+use Rattle.settlement.specs.declared.Paid.{Paid}
+use Rattle.settlement.specs.declared.Faulty.{Faulty}
 
 -- ---- a held round
 
@@ -24,25 +24,26 @@ settle_refusal r room =
     else if not (is_finished r) then 16
     else 0
 
--- refused with its number, or the pool in dollars, full and as paid
-unfoldable pub settle_answer : Round → ℕ → Settlement
-settle_answer r room =
-    if not (eqb (settle_refusal r room) 0) then Refused (settle_refusal r room)
-    else Paid (pool r).full (pool r).paid
+-- the pool in dollars, full and as paid
+abbrev pub settled_pool : Round → Paid
+settled_pool r = record { full = (pool r).full; paid = (pool r).paid }
+
+-- refused with its number, or the pool
+unfoldable pub settle_answer : Round → ℕ → Result Paid Refusal
+settle_answer r room = answered (settle_refusal r room) (settled_pool r)
 
 -- A refusal changes no lent list.
 unfoldable pub settle_list : Round → List ℕ → List ℕ
 settle_list r lent = if not (eqb (settle_refusal r (length lent)) 0) then lent else results r
 
 -- this paper's number for each answer: the refusal's, and 0 where the round is settled
-abbrev pub settle_number : Settlement → ℕ
-settle_number (Paid full paid) = 0
-settle_number (Refused number) = number
+abbrev pub settle_number : Result Paid Refusal → ℕ
+settle_number answer = number_of answer
 
 -- and its values: the pool in dollars, full and as paid; a refusal has none
-abbrev pub settle_pool : Settlement → List ℕ
-settle_pool (Paid full paid) = full ∷ paid ∷ []
-settle_pool (Refused number) = []
+abbrev pub settle_pool : Result Paid Refusal → List ℕ
+settle_pool (Ok p) = p.full ∷ p.paid ∷ []
+settle_pool (Err refusal) = []
 
 -- those of a round's pool
 abbrev pub full_and_paid : Round → List ℕ
@@ -62,43 +63,47 @@ read_refusal w room =
 unfoldable pub read_place : Reading → ℕ → ℕ
 read_place w room = if not (eqb room results_long) then 0 else w.place
 
+-- a refusal of a file: its number and its place
+abbrev pub faulty_at : ℕ → ℕ → Faulty
+faulty_at number place = record { number = number; place = place }
+
 -- refused with its number and place, or the pool in dollars, full and as paid
-unfoldable pub read_answer : Reading → ℕ → FileSettlement
+unfoldable pub read_answer : Reading → ℕ → Result Paid Faulty
 read_answer w room =
-    if not (eqb (read_refusal w room) 0) then RefusedFile (read_refusal w room) (read_place w room)
-    else PaidFile (pool w.round).full (pool w.round).paid
+    if not (eqb (read_refusal w room) 0) then Err (faulty_at (read_refusal w room) (read_place w room))
+    else Ok (settled_pool w.round)
 
 -- A refusal changes no lent list.
 unfoldable pub read_list : Reading → List ℕ → List ℕ
 read_list w lent = if not (eqb (read_refusal w (length lent)) 0) then lent else results w.round
 
-abbrev pub file_answer : List ℕ → ℕ → FileSettlement
+abbrev pub file_answer : List ℕ → ℕ → Result Paid Faulty
 file_answer l room = read_answer (read_file l) room
 
 abbrev pub file_list : List ℕ → List ℕ → List ℕ
 file_list l lent = read_list (read_file l) lent
 
 -- the same of a file of which the first bytes are held and the rest is counted
-abbrev pub prefix_answer : List ℕ → ℕ → ℕ → FileSettlement
+abbrev pub prefix_answer : List ℕ → ℕ → ℕ → Result Paid Faulty
 prefix_answer first after room = read_answer (read_prefix first after) room
 
 abbrev pub prefix_list : List ℕ → ℕ → List ℕ → List ℕ
 prefix_list first after lent = read_list (read_prefix first after) lent
 
 -- this paper's number for each answer: the refusal's, and 0 where the round is settled
-abbrev pub file_number : FileSettlement → ℕ
-file_number (PaidFile full paid) = 0
-file_number (RefusedFile number place) = number
+abbrev pub file_number : Result Paid Faulty → ℕ
+file_number (Ok p) = 0
+file_number (Err faulty) = faulty.number
 
 -- and its values: a refusal's place, 0 where there is none,
-abbrev pub file_place : FileSettlement → ℕ
-file_place (PaidFile full paid) = 0
-file_place (RefusedFile number place) = place
+abbrev pub file_place : Result Paid Faulty → ℕ
+file_place (Ok p) = 0
+file_place (Err faulty) = faulty.place
 
 -- and the pool in dollars, full and as paid, of a settled round
-abbrev pub file_pool : FileSettlement → List ℕ
-file_pool (PaidFile full paid) = full ∷ paid ∷ []
-file_pool (RefusedFile number place) = []
+abbrev pub file_pool : Result Paid Faulty → List ℕ
+file_pool (Ok p) = p.full ∷ p.paid ∷ []
+file_pool (Err faulty) = []
 
 -- the place as it goes by the number: 0 where there is no refusal, and for 16 the count of whole records
 unfoldable pub counted_place : Reading → ℕ → ℕ → ℕ
@@ -114,6 +119,6 @@ read_pool w room = unless_refused (read_refusal w room) (full_and_paid w.round)
 -- ---- the same as the code hands it on
 
 -- the answer for a round, at a place of a file
-abbrev pub at_place : ℕ → Settlement → FileSettlement
-at_place place (Paid full paid) = PaidFile full paid
-at_place place (Refused number) = RefusedFile number place
+abbrev pub at_place : ℕ → Result Paid Refusal → Result Paid Faulty
+at_place place (Ok p) = Ok p
+at_place place (Err refusal) = Err (faulty_at (number refusal) place)

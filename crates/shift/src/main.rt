@@ -20,11 +20,11 @@
 #![tactic(auto)]
 
 use cutting::{count_rounds, first_round};
-use pipes::{Outcome, called, end, print, read_all, tell};
+use pipes::{Fault, Outcome, called, end, print, read_all, tell};
 use results::RESULTS;
-use settlement::{FileSettlement, settle_file};
-use shifts::{ANSWER, ShiftAnswer, settle_shift};
-use text::{put_line, put_list, put_named};
+use settlement::{Faulty, Paid, settle_file};
+use shifts::{ANSWER, settle_shift};
+use text::Page;
 
 const NAME: [u8; 5] = *b"shift";
 
@@ -39,119 +39,112 @@ const ANSWERS: usize = ANSWER * ROUNDS;
 
 const TOO_LONG: [u8; 43] = *b"holds at most 4096 rounds and 2162688 bytes";
 
-fn put_refused(line: &mut [u8], number: u64, place: u64) -> usize {
-    let numbered = put_named(line, 0, b"refused ", number);
-    put_line(line, numbered, b" at", &[place])
+fn put_refused(page: &mut Page<'_>, number: u64, place: u64) {
+    page.put_named(b"refused ", number);
+    page.put_line(b" at", &[place]);
 }
 
-fn put_answer(line: &mut [u8], answer: &[u64]) -> usize {
-    if answer.len() != ANSWER {
-        return 0;
+fn put_answer(page: &mut Page<'_>, answer: &[u64]) {
+    if let [number, place] = answer {
+        put_refused(page, *number, *place);
     }
-    put_refused(line, answer[0], answer[1])
 }
 
-fn put_paid(line: &mut [u8], amounts: &[u64], full: u64, paid: u64) -> usize {
-    let listed = put_list(line, 0, b"paid", amounts);
-    put_line(line, listed, b" pool", &[full, paid])
+fn put_paid(page: &mut Page<'_>, amounts: &[u64], pool: Paid) {
+    page.put_list(b"paid", amounts);
+    page.put_line(b" pool", &[pool.full, pool.paid]);
 }
 
-fn put_round(line: &mut [u8], file: &[u8], amounts: &[u64], answer: &[u64]) -> usize {
+fn put_round(page: &mut Page<'_>, file: &[u8], amounts: &[u64], answer: &[u64]) {
     let mut own = [0u64; RESULTS];
     match settle_file(file, &mut own) {
-        FileSettlement::Paid { full, paid } => put_paid(line, amounts, full, paid),
-        FileSettlement::Refused { number, place } => put_answer(line, answer),
+        Ok(pool) => put_paid(page, amounts, pool),
+        Err(_) => put_answer(page, answer),
     }
 }
 
 // A line is at most 35 amounts and the pool, of 20 digits each, so it fits its room.
-fn print_round(rt: &(impl Print + Eprint), file: &[u8], amounts: &[u64], answer: &[u64]) -> bool {
-    let mut line = [0u8; 1024];
-    let last = put_round(&mut line, file, amounts, answer);
-    print(rt, &NAME, &line, last)
+fn print_round(
+    rt: &(impl Print + Eprint),
+    file: &[u8],
+    amounts: &[u64],
+    answer: &[u64],
+) -> Result<(), Fault> {
+    let mut room = [0u8; 1024];
+    let mut page = Page::new(&mut room);
+    put_round(&mut page, file, amounts, answer);
+    print(rt, &NAME, page.text())
 }
 
-// Both lists have a row for each round, since they were filled.
+// Both lists have a row for each round.
 fn print_rounds(
     rt: &(impl Print + Eprint),
     file: &[u8],
     amounts: &[u64],
     answers: &[u64],
-) -> Outcome {
+) -> Result<Outcome, Fault> {
     let mut rest = file;
-    let mut paid = amounts;
-    let mut told = answers;
-    while 16 <= rest.len() {
-        if paid.len() < RESULTS {
-            return Outcome::Fault;
-        }
-        if told.len() < ANSWER {
-            return Outcome::Fault;
-        }
+    for (paid, told) in amounts
+        .chunks_exact(RESULTS)
+        .zip(answers.chunks_exact(ANSWER))
+    {
         let end = first_round(rest);
-        if !print_round(rt, &rest[..end], &paid[..RESULTS], &told[..ANSWER]) {
-            return Outcome::Fault;
-        }
+        print_round(rt, &rest[..end], paid, told)?;
         rest = &rest[end..];
-        paid = &paid[RESULTS..];
-        told = &told[ANSWER..];
     }
-    Outcome::Done
+    Ok(Outcome::Done)
 }
 
-fn print_refused(rt: &(impl Print + Eprint), number: u8, place: usize) -> Outcome {
-    let mut line = [0u8; 64];
-    let last = put_refused(&mut line, number as u64, place as u64);
-    if print(rt, &NAME, &line, last) {
-        return Outcome::Refused;
-    }
-    Outcome::Fault
+fn print_refused(rt: &(impl Print + Eprint), faulty: Faulty) -> Result<Outcome, Fault> {
+    let mut room = [0u8; 64];
+    let mut page = Page::new(&mut room);
+    put_refused(&mut page, faulty.number as u64, faulty.place as u64);
+    print(rt, &NAME, page.text())?;
+    Ok(Outcome::Refused)
 }
 
-fn too_many(rt: &impl Eprint) -> Outcome {
+fn too_many(rt: &impl Eprint) -> Fault {
     tell(rt, &NAME, &TOO_LONG);
-    Outcome::Fault
+    Fault
 }
 
 // Into lists that may be longer than the rounds need.
-fn settled(rt: &(impl Print + Eprint), file: &[u8], room: &mut [u64], told: &mut [u64]) -> Outcome {
+fn settled(
+    rt: &(impl Print + Eprint),
+    file: &[u8],
+    room: &mut [u64],
+    told: &mut [u64],
+) -> Result<Outcome, Fault> {
     let rounds = count_rounds(file);
-    if room.len() / RESULTS < rounds {
-        return too_many(rt);
-    }
-    if told.len() / ANSWER < rounds {
-        return too_many(rt);
+    if (room.len() / RESULTS < rounds) | (told.len() / ANSWER < rounds) {
+        return Err(too_many(rt));
     }
     let amounts: &mut [u64] = &mut room[..RESULTS * rounds];
     let answers: &mut [u64] = &mut told[..ANSWER * rounds];
     match settle_shift(file, amounts, answers) {
-        ShiftAnswer::Settled { rounds } => print_rounds(rt, file, amounts, answers),
-        ShiftAnswer::Refused { number, place } => print_refused(rt, number, place),
+        Ok(_) => print_rounds(rt, file, amounts, answers),
+        Err(faulty) => print_refused(rt, faulty),
     }
 }
 
-fn settled_in_rooms(rt: &(impl Print + Eprint), file: &[u8]) -> Outcome {
+fn settled_in_rooms(rt: &(impl Print + Eprint), file: &[u8]) -> Result<Outcome, Fault> {
     let mut room = [0u64; AMOUNTS];
     let mut told = [0u64; ANSWERS];
     settled(rt, file, &mut room, &mut told)
 }
 
-fn read_and_settled(rt: &(impl Input + Print + Eprint), room: &mut [u8]) -> Outcome {
-    let got = read_all(rt, &NAME, room, &TOO_LONG);
-    if got.failed {
-        return Outcome::Fault;
-    }
-    settled_in_rooms(rt, &room[..got.bytes])
+fn read_and_settled(rt: &(impl Input + Print + Eprint), room: &mut [u8]) -> Result<Outcome, Fault> {
+    let bytes = read_all(rt, &NAME, room, &TOO_LONG)?;
+    settled_in_rooms(rt, &room[..bytes])
 }
 
-fn run(rt: &(impl Input + Print + Eprint)) -> Outcome {
+fn run(rt: &(impl Input + Print + Eprint)) -> Result<Outcome, Fault> {
     let mut file = [0u8; BYTES];
     read_and_settled(rt, &mut file)
 }
 
 fn main(rt: HostRuntime) {
-    let call = called(&rt, &NAME, true);
-    if call.sound {
+    if let Some(call) = called(&rt, &NAME, true) {
         end(&rt, &NAME, call, run(&rt));
     }
 }

@@ -8,14 +8,14 @@ use native.Mathlib.Omega.{arith}
 use lib.Dec.{eqb}
 use lib.ListN.{length}
 use borrow.Author.Tests.{ne_eqb, eqb-true}
-use Rattle.std.specs.Prelude.{if◌then◌else◌}
+use Rattle.std.specs.Prelude.{Result, Ok, Err, if◌then◌else◌}
 use Rattle.counting.specs.Choose.{unless_refused}
 use Rattle.counting.proofs.Answers.{by_number, by_values}
 use Rattle.counting.proofs.Tests.{and_true}
 use Rattle.results.specs.Results.{results_long}
 use Rattle.cutting.specs.Rounds.{round_count}
-use Rattle.shifts.specs.declared.ShiftAnswer.{ShiftAnswer}
-use Rattle.shifts.specs.declared.ShiftAnswer.TheVariants.{Settled, Refused}
+use Rattle.settlement.specs.declared.Faulty.{Faulty}
+use Rattle.settlement.specs.Settle.{faulty_at}
 use Rattle.shifts.specs.Shift.{round_amounts, round_answer, answer_long, in_turn, lists_fit, shift_refusal, shift_place, shift_answer, shift_list, shift_number, answer_place, answer_rounds}
 
 -- what the code finds of both lists, by the number of rounds
@@ -32,27 +32,27 @@ both_right l amounts answers t =
 
 module _ (l : List ℕ) (fit : Bool) (amounts answers : List ℕ) where
   -- the answer, and both lists
-  abbrev pub Settles : ShiftAnswer → List ℕ → List ℕ → Type 0
+  abbrev pub Settles : Result ℕ Faulty → List ℕ → List ℕ → Type 0
   Settles answer xs ys =
       (answer ≡ shift_answer l fit) × ((xs ≡ shift_list round_amounts l fit amounts) × (ys ≡ shift_list round_answer l fit answers))
 
-  pub odd_tail : (length l % 16 ≡ 0 → ⊥) → Settles (Refused 2 (length l / 16)) amounts answers
+  pub odd_tail : (length l % 16 ≡ 0 → ⊥) → Settles (Err (faulty_at 2 (length l / 16))) amounts answers
   unfolding shift_refusal shift_place shift_answer shift_list
   odd_tail n = let odd = ne_eqb (length l % 16) 0 n in (simp odd, (simp odd, simp odd))
 
   module _ (even : length l % 16 ≡ 0) where
-    pub wrong_lists : fit ≡ false → Settles (Refused 1 0) amounts answers
+    pub wrong_lists : fit ≡ false → Settles (Err (faulty_at 1 0)) amounts answers
     unfolding shift_refusal shift_place shift_answer shift_list
     wrong_lists f = (simp (even, f), (simp (even, f), simp (even, f)))
 
     pub all_settled : fit ≡ true → (rounds : ℕ) (xs ys : List ℕ) → rounds ≡ round_count l → xs ≡ in_turn round_amounts l → ys ≡ in_turn round_answer l
-        → Settles (Settled rounds) xs ys
+        → Settles (Ok rounds) xs ys
     unfolding shift_refusal shift_place shift_answer shift_list
     all_settled f rounds xs ys n a b = (simp (even, f, n), (simp (even, f) a, simp (even, f) b))
 
 module _ (l : List ℕ) (fit : Bool) where
-  abbrev answer_by : Bool → ShiftAnswer
-  answer_by none = if not none then Refused (shift_refusal l fit) (shift_place l) else Settled (round_count l)
+  abbrev answer_by : Bool → Result ℕ Faulty
+  answer_by none = if not none then Err (faulty_at (shift_refusal l fit) (shift_place l)) else Ok (round_count l)
 
   pub shift_number_lem : shift_number (shift_answer l fit) ≡ shift_refusal l fit
   unfolding shift_answer
@@ -69,13 +69,13 @@ module _ (l : List ℕ) (fit : Bool) where
       go : (even fit : Bool) →
           let place : ℕ = if not even then length l / 16 else 0 in
           let number : ℕ = if not even then 2 else if not fit then 1 else 0 in
-          answer_place (if not (eqb number 0) then Refused number place else Settled (round_count l)) ≡ place
+          answer_place (if not (eqb number 0) then Err (faulty_at number place) else Ok (round_count l)) ≡ place
       go false fit = refl
       go true false = refl
       go true true = refl
 
 -- what settle_shift promises
-pub shift_promised : (l : List ℕ) (fit : Bool) (amounts answers : List ℕ) (given : ShiftAnswer) (xs ys : List ℕ) → Settles l fit amounts answers given xs ys
+pub shift_promised : (l : List ℕ) (fit : Bool) (amounts answers : List ℕ) (given : Result ℕ Faulty) (xs ys : List ℕ) → Settles l fit amounts answers given xs ys
     → record {
       answer : given ≡ shift_answer l fit;
       number : shift_number given ≡ shift_refusal l fit;

@@ -1,6 +1,6 @@
 -- What each round gives, m numbers each, written into a list from the front.
 -- Assumes nothing.
-use Prim.Native.Nat.{ℕ, ◌+◌, ◌-◌, ◌*◌, ◌≤◌, ◌<◌}
+use Prim.Native.Nat.{ℕ, ◌+◌, ◌-◌, ◌*◌, ◌≤◌}
 use mathlib.Core.Path.{◌≡◌, ap, sym, ◌∙◌}
 use mathlib.Core.List.{List, [], ◌++◌, map, append_assoc, append-nil}
 use native.Mathlib.Nat.{mul-zero, mul-le-mul_left}
@@ -9,8 +9,8 @@ use lib.ListN.{length, take, drop, length-append, length-drop}
 use lib.Seq.{take_all, take_at, length-take-le}
 use Rattle.counting.proofs.Gathers.{one_more}
 use Rattle.reading.specs.Joined.{joined}
-use Rattle.cutting.specs.Rounds.{round_count}
-use Rattle.cutting.proofs.Cuts.{Ends, rounds_none}
+use Rattle.cutting.specs.Rounds.{shift_rounds, round_count}
+use Rattle.cutting.proofs.Cuts.{Ends}
 use Rattle.shifts.specs.Shift.{in_turn}
 
 module _ (m : ℕ) (give : List ℕ → List ℕ) (l : List ℕ) where
@@ -50,9 +50,9 @@ module _ (m : ℕ) (give : List ℕ → List ℕ) (l : List ℕ) where
   row_back list rest new k n s e g w h =
       let wide : m * k + m - m * k ≡ m = omega arith in rw (wide, g) (row_more list rest k n s e w h)
 
-  pub row_all : (list rest : List ℕ) (k : ℕ) → Row list rest k → length rest < 16 → k ≡ round_count l → list ≡ in_turn give l
+  pub row_all : (list rest : List ℕ) (k : ℕ) → Row list rest k → shift_rounds rest ≡ [] → k ≡ round_count l → list ≡ in_turn give l
   unfolding joined
-  row_all list rest k s h e =
-      let none : in_turn give rest ≡ [] = ap (λ (rs : List (List ℕ)). joined (map give rs)) (rounds_none rest h) in
+  row_all list rest k s n e =
+      let none : in_turn give rest ≡ [] = ap (λ (rs : List (List ℕ)). joined (map give rs)) n in
       let all : take (m * k) list ≡ list = take_all (m * k) list (rw (s.0, e) (omega arith)) in
       sym (append-nil list) ∙ ap (λ (x : List ℕ). x ++ []) (sym all) ∙ ap (λ (x : List ℕ). take (m * k) list ++ x) (sym none) ∙ s.1

@@ -1,12 +1,11 @@
 -- A shift: rounds joined end to end, settled in one call.
 -- Assumes nothing.
-use Rattle.std.specs.Prelude.{ℕ, ◌*◌, ◌/◌, ◌%◌, Bool, not, ◌&&◌, List, [], ◌∷◌, map, eqb, length, replicate, if◌then◌else◌}
+use Rattle.std.specs.Prelude.{ℕ, ◌*◌, ◌/◌, ◌%◌, Bool, not, ◌&&◌, List, [], ◌∷◌, map, Result, Ok, Err, eqb, length, replicate, if◌then◌else◌}
 use Rattle.reading.specs.Joined.{joined}
 use Rattle.results.specs.Results.{results_long}
-use Rattle.settlement.specs.Settle.{file_answer, file_list, file_number, file_place}
+use Rattle.settlement.specs.declared.Faulty.{Faulty}
+use Rattle.settlement.specs.Settle.{faulty_at, file_answer, file_list, file_number, file_place}
 use Rattle.cutting.specs.Rounds.{shift_rounds, round_count}
-use Rattle.shifts.specs.declared.ShiftAnswer.{ShiftAnswer}
-use Rattle.shifts.specs.declared.ShiftAnswer.TheVariants.{Settled, Refused}
 
 -- ---- what each round gives
 
@@ -44,36 +43,36 @@ unfoldable pub shift_place : List ℕ → ℕ
 shift_place l = if not (eqb (length l % 16) 0) then length l / 16 else 0
 
 -- refused with its number and place, or settled with the number of rounds
-unfoldable pub shift_answer : List ℕ → Bool → ShiftAnswer
+unfoldable pub shift_answer : List ℕ → Bool → Result ℕ Faulty
 shift_answer l fit =
-    if not (eqb (shift_refusal l fit) 0) then Refused (shift_refusal l fit) (shift_place l)
-    else Settled (round_count l)
+    if not (eqb (shift_refusal l fit) 0) then Err (faulty_at (shift_refusal l fit) (shift_place l))
+    else Ok (round_count l)
 
 -- What a lent list then holds: of a refused shift nothing is written; else what each round gives.
 unfoldable pub shift_list : (List ℕ → List ℕ) → List ℕ → Bool → List ℕ → List ℕ
 shift_list give l fit lent = if not (eqb (shift_refusal l fit) 0) then lent else in_turn give l
 
 -- this paper's number for each answer: the refusal's, and 0 where the shift is settled
-abbrev pub shift_number : ShiftAnswer → ℕ
-shift_number (Settled rounds) = 0
-shift_number (Refused number place) = number
+abbrev pub shift_number : Result ℕ Faulty → ℕ
+shift_number (Ok rounds) = 0
+shift_number (Err faulty) = faulty.number
 
 -- and its values: a refusal's place, 0 where there is none,
-abbrev pub answer_place : ShiftAnswer → ℕ
-answer_place (Settled rounds) = 0
-answer_place (Refused number place) = place
+abbrev pub answer_place : Result ℕ Faulty → ℕ
+answer_place (Ok rounds) = 0
+answer_place (Err faulty) = faulty.place
 
 -- and the number of rounds of a settled shift
-abbrev pub answer_rounds : ShiftAnswer → List ℕ
-answer_rounds (Settled rounds) = rounds ∷ []
-answer_rounds (Refused number place) = []
+abbrev pub answer_rounds : Result ℕ Faulty → List ℕ
+answer_rounds (Ok rounds) = rounds ∷ []
+answer_rounds (Err faulty) = []
 
 -- ---- the same in numbers that the caller lends: what an answer does not have is left as it was
 
-abbrev pub rounds_told : ShiftAnswer → ℕ → ℕ
-rounds_told (Settled rounds) was = rounds
-rounds_told (Refused number place) was = was
+abbrev pub rounds_told : Result ℕ Faulty → ℕ → ℕ
+rounds_told (Ok rounds) was = rounds
+rounds_told (Err faulty) was = was
 
-abbrev pub place_told : ShiftAnswer → ℕ → ℕ
-place_told (Settled rounds) was = was
-place_told (Refused number place) was = place
+abbrev pub place_told : Result ℕ Faulty → ℕ → ℕ
+place_told (Ok rounds) was = was
+place_told (Err faulty) was = faulty.place

@@ -6,45 +6,19 @@
 
 #![tactic(auto)]
 
-ghost use Rattle.std.specs.Prelude.{◌≡◌, ◌&&◌, ◌∷◌, [], ◌<◌, ◌*◌, eqb, length, replicate};
+ghost use Rattle.std.specs.Prelude.{◌≡◌, ◌&&◌, ◌∷◌, [], ◌<◌, ◌*◌, eqb, length};
 ghost use Rattle.counting.specs.Choose.{unless_refused};
 ghost use Rattle.cutting.specs.Rounds.{round_count};
 ghost use Rattle.results.specs.Results.{results_long};
 ghost use Rattle.shifts.specs.Shift.{round_amounts, round_answer, answer_long, in_turn, lists_fit, shift_refusal, shift_place, shift_answer, shift_list, shift_number, answer_place, answer_rounds, rounds_told, place_told};
 
+use causes::Refusal;
 use cutting::{count_rounds, first_round};
 use results::RESULTS;
-use settlement::{file_number, file_place, settle_file};
+use settlement::{Faulty, file_number, file_place, settle_file};
 
 // How many numbers a round has in the second list: its refusal's number and place.
 pub const ANSWER: usize = 2;
-
-// The answer to a shift.
-#[derive(Clone, Copy)]
-pub enum ShiftAnswer {
-    // How many rounds it has. Both lists hold what each of them gives.
-    Settled { rounds: usize },
-    // 2 or 1, and its place; both lists are as they were.
-    Refused { number: u8, place: usize },
-}
-
-fn clear(list: &mut [u64])
-    ensures { list.new ≡ replicate (length list.old) 0 }
-{
-    let mut i = 0;
-    while i < list.len() {
-        list[i] = 0;
-        i += 1;
-    }
-}
-
-fn tell(number: u64, place: u64, answer: &mut [u64])
-    requires { length answer.old ≡ answer_long }
-    ensures { answer.new ≡ number ∷ place ∷ [] }
-{
-    answer[0] = number;
-    answer[1] = place;
-}
 
 // One round into its own part of each list.
 fn settle_one(file: &[u8], amounts: &mut [u64], answer: &mut [u64])
@@ -52,36 +26,30 @@ fn settle_one(file: &[u8], amounts: &mut [u64], answer: &mut [u64])
     ensures amounts { amounts.new ≡ round_amounts file.now }
     ensures answer { answer.new ≡ round_answer file.now }
 {
-    clear(amounts);
+    amounts.fill(0);
     let settlement = settle_file(file, amounts);
-    tell(
-        file_number(settlement) as u64,
-        file_place(settlement) as u64,
-        answer,
-    );
+    let number = file_number(settlement) as u64;
+    let place = file_place(settlement) as u64;
+    answer.copy_from_slice(&[number, place]);
 }
 
 // Every round, into lists that are as long as they all need.
-fn settle_rounds(file: &[u8], amounts: &mut [u64], answers: &mut [u64])
-    requires { (length amounts.old ≡ results_long * round_count file.now) × (length answers.old ≡ answer_long * round_count file.now) }
+fn settle_rounds(file: &[u8], rounds: usize, amounts: &mut [u64], answers: &mut [u64])
+    requires { (rounds ≡ round_count file.now) × (length amounts.old ≡ results_long * rounds) × (length answers.old ≡ answer_long * rounds) }
     ensures amounts { amounts.new ≡ in_turn round_amounts file.now }
     ensures answers { answers.new ≡ in_turn round_answer file.now }
 {
-    let mut start = 0;
-    let mut k = 0;
-    while 16 <= file.len() - start {
-        let end = start + first_round(&file[start..]);
+    let mut rest = file;
+    for k in 0..rounds {
+        let (round, after) = rest.split_at(first_round(rest));
         let at = RESULTS * k;
-        let to = at + RESULTS;
         let told = ANSWER * k;
-        let said = told + ANSWER;
         settle_one(
-            &file[start..end],
-            &mut amounts[at..to],
-            &mut answers[told..said],
+            round,
+            &mut amounts[at..at + RESULTS],
+            &mut answers[told..told + ANSWER],
         );
-        start = end;
-        k += 1;
+        rest = after;
     }
 }
 
@@ -99,8 +67,9 @@ fn lists_fit(rounds: usize, room: usize, told: usize) -> bool
     fits(rounds, RESULTS, room) & fits(rounds, ANSWER, told)
 }
 
-// Settles a shift: 2, then 1. count_rounds tells how long the lists have to be, 35 amounts and two numbers for each round.
-pub fn settle_shift(file: &[u8], amounts: &mut [u64], answers: &mut [u64]) -> ShiftAnswer
+// Settles a shift: 2, then 1, with its place, and both lists are as they were; else how many rounds it has, and both lists hold what each of them gives. count_rounds
+// tells how long the lists have to be, 35 amounts and two numbers for each round.
+pub fn settle_shift(file: &[u8], amounts: &mut [u64], answers: &mut [u64]) -> Result<usize, Faulty>
     ensures answer { result ≡ shift_answer file.now (lists_fit file.now amounts.old answers.old) }
     ensures number { shift_number result ≡ shift_refusal file.now (lists_fit file.now amounts.old answers.old) }
     ensures place { answer_place result ≡ shift_place file.now }
@@ -109,52 +78,23 @@ pub fn settle_shift(file: &[u8], amounts: &mut [u64], answers: &mut [u64]) -> Sh
     ensures answers { answers.new ≡ shift_list round_answer file.now (lists_fit file.now amounts.old answers.old) answers.old }
 {
     if file.len() % 16 != 0 {
-        return ShiftAnswer::Refused {
-            number: 2,
+        return Err(Faulty {
+            number: Refusal::RecordLength.number(),
             place: file.len() / 16,
-        };
+        });
     }
     let rounds = count_rounds(file);
     if !lists_fit(rounds, amounts.len(), answers.len()) {
-        return ShiftAnswer::Refused {
-            number: 1,
+        return Err(Faulty {
+            number: Refusal::ListLength.number(),
             place: 0,
-        };
+        });
     }
-    settle_rounds(file, amounts, answers);
-    ShiftAnswer::Settled { rounds }
+    settle_rounds(file, rounds, amounts, answers);
+    Ok(rounds)
 }
 
-// ---- the same in numbers, as C has it
-
-fn shift_number(answer: ShiftAnswer) -> u8
-    ensures { result ≡ shift_number answer }
-{
-    match answer {
-        ShiftAnswer::Settled { rounds } => 0,
-        ShiftAnswer::Refused { number, place } => number,
-    }
-}
-
-fn rounds_told(answer: ShiftAnswer, was: usize) -> usize
-    ensures { result ≡ rounds_told answer was }
-{
-    match answer {
-        ShiftAnswer::Settled { rounds } => rounds,
-        ShiftAnswer::Refused { number, place } => was,
-    }
-}
-
-fn place_told(answer: ShiftAnswer, was: usize) -> usize
-    ensures { result ≡ place_told answer was }
-{
-    match answer {
-        ShiftAnswer::Settled { rounds } => was,
-        ShiftAnswer::Refused { number, place } => place,
-    }
-}
-
-// The refusal's number, or 0; how many rounds there are, of a settled shift; the place, of a refused one.
+// The same in numbers, as C has it: the refusal's number, or 0; how many rounds there are, of a settled shift; the place, of a refused one.
 pub fn settle_told(
     file: &[u8],
     amounts: &mut [u64],
@@ -168,8 +108,14 @@ pub fn settle_told(
     ensures rounds { rounds.new ≡ rounds_told (shift_answer file.now (lists_fit file.now amounts.old answers.old)) rounds.old }
     ensures place { place.new ≡ place_told (shift_answer file.now (lists_fit file.now amounts.old answers.old)) place.old }
 {
-    let answer = settle_shift(file, amounts, answers);
-    *rounds = rounds_told(answer, *rounds);
-    *place = place_told(answer, *place);
-    shift_number(answer)
+    match settle_shift(file, amounts, answers) {
+        Ok(count) => {
+            *rounds = count;
+            0
+        }
+        Err(faulty) => {
+            *place = faulty.place;
+            faulty.number
+        }
+    }
 }

@@ -1,3 +1,3 @@
-pub mod Writes
-pub mod Digits
+pub mod Decimal
 pub mod Lists
+pub mod Writes

@@ -1,17 +1,22 @@
 -- Numbers, each after a blank, one more at a time.
 -- Assumes nothing.
 use Prim.Native.Nat.{ℕ, ◌+◌, ◌≤◌, ◌<◌}
-use mathlib.Core.Path.{◌≡◌}
-use mathlib.Core.List.{List, [], ◌∷◌, ◌++◌}
+use mathlib.Core.Path.{◌≡◌, ap, sym, ◌∙◌}
+use mathlib.Core.List.{List, [], ◌∷◌, ◌++◌, map, append_assoc, append-nil}
 use native.Mathlib.Numerals.{add-one}
-use lib.ListN.{length, get_or, drop, drop_of_length-le}
-use lib.Seq.{drop-cons}
+use lib.ListN.{length, get_or, take}
+use lib.Seq.{take-suc, take_all}
 use Rattle.text.specs.Text.{decimal, listed}
 
-pub listed_more : (ns : List ℕ) (i : ℕ) → i < length ns → listed (drop i ns) ≡ (32 ∷ decimal (get_or ns i 0)) ++ listed (drop (i + 1) ns)
+listed_push : {A : Type 0} (value : A → ℕ) (ns : List A) (n : A) → listed (map value (ns ++ (n ∷ []))) ≡ listed (map value ns) ++ (32 ∷ decimal (value n))
 unfolding listed
-listed_more ns i h = rw (add-one, drop-cons ns i 0)
+listed_push value [] n = append-nil (32 ∷ decimal (value n))
+listed_push value (m ∷ ns) n = ap (λ (l : List ℕ). (32 ∷ decimal (value m)) ++ l) (listed_push value ns n) ∙ sym (append_assoc (32 ∷ decimal (value m)) (listed (map value ns)) _)
 
-pub listed_over : (ns : List ℕ) (i : ℕ) → length ns ≤ i → listed (drop i ns) ≡ []
-unfolding listed
-listed_over ns i h = rw drop_of_length-le
+module _ {A : Type 0} (value : A → ℕ) (ns : List A) (i : ℕ) where
+  pub listed_more : (n : A) → n ≡ get_or ns i n → i < length ns
+      → listed (map value (take (i + 1) ns)) ≡ listed (map value (take i ns)) ++ (32 ∷ decimal (value n))
+  listed_more n e h = rw (add-one, take-suc ns i n h, sym e) (listed_push value (take i ns) n)
+
+  pub listed_all : length ns ≤ i → listed (map value (take i ns)) ≡ listed (map value ns)
+  listed_all h = rw (take_all i ns h)

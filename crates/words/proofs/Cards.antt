@@ -6,10 +6,13 @@ use mathlib.Core.Bool.{Bool, true, false, ◌&&◌}
 use mathlib.Core.List.{List, [], ◌∷◌, ◌++◌}
 use native.Mathlib.Omega.{arith}
 use lib.Dec.{eqb, ltb}
-use lib.ListN.{length, get_or}
+use lib.ListN.{length, get_or, take, drop, drop_of_length-le}
+use lib.Seq.{drop-cons}
+use native.Mathlib.Numerals.{add-one}
+use Rattle.std.proofs.lemmas.List.{take_more}
 use borrow.Author.Tests.{eqb-true, eq-eqb, ne_eqb, lt-ltb, ltb-true, ltb-false}
 use Rattle.counting.specs.Choose.{one}
-use Rattle.counting.specs.Count.{count, every_of, every_below, sum_below}
+use Rattle.counting.specs.Count.{count, every_of, every_below, some_below, sum_below}
 use Rattle.counting.proofs.Lists.{count_both, count_most, count_all, all_count, every_of_at}
 use Rattle.counting.proofs.Ranges.{every_at, some_where, some_here}
 use Rattle.counting.proofs.Sums.{heaps_within, heaps_whole, heaps_full, sum_le}
@@ -17,7 +20,7 @@ use Rattle.counting.proofs.Tests.{and_true, both, same_true, one_le, one_true}
 use Rattle.cards.specs.Card.{rank, suit}
 use Rattle.hands.specs.Hand.{of_rank, of_suit, of_a_kind, flush, highest}
 use Rattle.hands.proofs.Highest.{highest_is}
-use Rattle.words.specs.Word.{digits, word, apart}
+use Rattle.words.specs.Word.{digits, word, apart, largest}
 use Rattle.words.proofs.Digits.{digits_same, digits_le, digits_add, digits-none}
 use Rattle.words.proofs.Planes.{kinds-sum}
 use Rattle.words.proofs.Apart.{once_le, five-apart}
@@ -61,6 +64,10 @@ pub word-most : (cs : List ℕ) → word (of_rank cs) ≤ length cs * 0x11111111
 unfolding digits of_rank
 word-most cs = omega (arith, digits_le 13 (of_rank cs) (λ r. length cs) (λ r. count_most (λ c. eqb (rank c) r) cs))
 
+-- a word by its cards, one after the other
+pub word_next : (cs : List ℕ) (i : ℕ) → i < length cs → word (of_rank (take (i + 1) cs)) ≡ word (of_rank (take i cs)) + word (of_rank (get_or cs i 0 ∷ []))
+word_next cs i h = ap (λ l. word (of_rank l)) (take_more cs i 0 h) ∙ word_both (take i cs) (get_or cs i 0 ∷ [])
+
 -- ---- one suit
 
 -- cards are of one suit where each is of the first one's
@@ -80,35 +87,38 @@ one-suit c cs =
     some_here (λ s. eqb (of_suit (c ∷ cs) s) (suc (length cs))) 4 (suit c) (omega arith)
     (eq-eqb (of_suit (c ∷ cs) (suit c)) (suc (length cs)) (omega (arith, n, ap one (eq-eqb (suit c) (suit c) refl)))))
 
-and_end : (t : Bool) → (t && true) ≡ t
+pub and_end : (t : Bool) → (t && true) ≡ t
 and_end true = refl
 and_end false = refl
 
-pub five-suited : (a b c d e : ℕ)
-    → (eqb (suit b) (suit a) && (eqb (suit c) (suit a) && (eqb (suit d) (suit a) && eqb (suit e) (suit a)))) ≡ flush 5 (of_suit (a ∷ b ∷ c ∷ d ∷ e ∷ []))
-unfolding every_of
-five-suited a b c d e = sym (one-suit a (b ∷ c ∷ d ∷ e ∷ []) ∙ simp (and_end (eqb (suit e) (suit a))))
+pub and_next : (a b c : Bool) → ((a && b) && c) ≡ (a && (b && c))
+and_next true b c = refl
+and_next false b c = refl
 
-pub six-suited : (a b c d e f : ℕ)
-    → (eqb (suit b) (suit a) && (eqb (suit c) (suit a) && (eqb (suit d) (suit a) && (eqb (suit e) (suit a) && eqb (suit f) (suit a)))))
-    ≡ flush 6 (of_suit (a ∷ b ∷ c ∷ d ∷ e ∷ f ∷ []))
-unfolding every_of
-six-suited a b c d e f = sym (one-suit a (b ∷ c ∷ d ∷ e ∷ f ∷ []) ∙ simp (and_end (eqb (suit f) (suit a))))
+-- no cards are of each suit
+pub no-suit : (cs : List ℕ) → length cs ≡ 0 → flush (length cs) (of_suit cs) ≡ true
+unfolding flush of_suit count some_below
+no-suit [] e = refl
+no-suit (c ∷ cs) e = absurd (omega arith)
 
-pub three_suited : (a b c : ℕ) → (eqb (suit b) (suit a) && eqb (suit c) (suit a)) ≡ flush 3 (of_suit (a ∷ b ∷ c ∷ []))
+-- so cards are of one suit where each is of the suit of the first, if there is one
+pub one_suit_of : (cs : List ℕ) → every_of (λ x. eqb (suit x) (suit (get_or cs 0 0))) cs ≡ flush (length cs) (of_suit cs)
 unfolding every_of
-three_suited a b c = sym (one-suit a (b ∷ c ∷ []) ∙ simp (and_end (eqb (suit c) (suit a))))
-
-pub two-suited : (a b : ℕ) → eqb (suit b) (suit a) ≡ flush 2 (of_suit (a ∷ b ∷ []))
-unfolding every_of
-two-suited a b = sym (one-suit a (b ∷ []) ∙ and_end (eqb (suit b) (suit a)))
+one_suit_of [] = sym (no-suit [] refl)
+one_suit_of (c ∷ cs) = rw (eq-eqb (suit c) (suit c) refl) (sym (one-suit c cs))
 
 -- ---- the highest rank
 
--- the largest of some cards
-pub largest : ℕ → List ℕ → ℕ
-largest c [] = c
-largest c (d ∷ cs) = max c (largest d cs)
+pub largest_step : (cs : List ℕ) (i : ℕ) → i < length cs → largest (drop i cs) ≡ max (get_or cs i 0) (largest (drop (i + 1) cs))
+unfolding largest
+largest_step cs i h = rw (add-one, drop-cons cs i 0)
+
+pub largest_end : (cs : List ℕ) (i : ℕ) → length cs ≤ i → largest (drop i cs) ≡ 0
+unfolding largest
+largest_end cs i h = rw drop_of_length-le
+
+alone_max : (c : ℕ) → max c 0 ≡ c
+alone_max c = omega arith
 
 either : (P : ℕ → Type 0) (a b : ℕ) → P a → P b → P (max a b)
 either P a b p q = go (ltb a b) refl
@@ -118,61 +128,62 @@ either P a b p q = go (ltb a b) refl
     go false e = let l = ltb-false a b e in let m : a ≡ max a b = omega arith in subst P m p
 
 -- a test that each card passes
-of_largest : (f : ℕ → Bool) (c : ℕ) (cs : List ℕ) → every_of f (c ∷ cs) ≡ true → f (largest c cs) ≡ true
+of_largest : (f : ℕ → Bool) (c : ℕ) (cs : List ℕ) → every_of f (c ∷ cs) ≡ true → f (largest (c ∷ cs)) ≡ true
 unfolding largest every_of
-of_largest f c [] e = (and_true (f c) true e).0
+of_largest f c [] e = rw (alone_max c) ((and_true (f c) true e).0)
 of_largest f c (d ∷ cs) e =
     let p = and_true (f c) (every_of f (d ∷ cs)) e in
-    either (λ x. f x ≡ true) c (largest d cs) p.0 (of_largest f d cs p.1)
+    either (λ x. f x ≡ true) c (largest (d ∷ cs)) p.0 (of_largest f d cs p.1)
 
 -- its rank occurs, and none above it
-there : (c : ℕ) (cs : List ℕ) → 0 < of_rank (c ∷ cs) (rank (largest c cs))
+there : (c : ℕ) (cs : List ℕ) → 0 < of_rank (c ∷ cs) (rank (largest (c ∷ cs)))
 unfolding largest of_rank count
-there c [] = omega (arith, ap one (eq-eqb (rank c) (rank c) refl))
+there c [] = rw (alone_max c) (omega (arith, ap one (eq-eqb (rank c) (rank c) refl)))
 there c (d ∷ cs) =
-    either (λ x. 0 < of_rank (c ∷ d ∷ cs) (rank x)) c (largest d cs)
+    either (λ x. 0 < of_rank (c ∷ d ∷ cs) (rank x)) c (largest (d ∷ cs))
     (omega (arith, ap one (eq-eqb (rank c) (rank c) refl))) (omega (arith, there d cs))
 
-none_above : (c : ℕ) (cs : List ℕ) (r : ℕ) → rank (largest c cs) < r → of_rank (c ∷ cs) r ≡ 0
+none_above : (c : ℕ) (cs : List ℕ) (r : ℕ) → rank (largest (c ∷ cs)) < r → of_rank (c ∷ cs) r ≡ 0
 unfolding largest of_rank count
-none_above c [] r l = omega (arith, ap one (ne_eqb (rank c) r (λ e. omega arith)))
+none_above c [] r l =
+    let m = rw (alone_max c) at l in
+    omega (arith, ap one (ne_eqb (rank c) r (λ e. omega arith)))
 none_above c (d ∷ cs) r l = omega (arith, ap one (ne_eqb (rank c) r (λ e. omega (arith, l))), none_above d cs r (omega (arith, l)))
 
 -- each counts as a rank exactly where the largest is a card
-each_below : (n c : ℕ) (cs : List ℕ) → largest c cs < n → every_of (λ x. ltb x n) (c ∷ cs) ≡ true
+each_below : (n c : ℕ) (cs : List ℕ) → largest (c ∷ cs) < n → every_of (λ x. ltb x n) (c ∷ cs) ≡ true
 unfolding largest every_of
-each_below n c [] l = both (ltb c n) true (lt-ltb c n l) refl
+each_below n c [] l = both (ltb c n) true (lt-ltb c n (omega (arith, l))) refl
 each_below n c (d ∷ cs) l = both (ltb c n) (every_of (λ x. ltb x n) (d ∷ cs)) (lt-ltb c n (omega (arith, l))) (each_below n d cs (omega (arith, l)))
 
-all_below : (c : ℕ) (cs : List ℕ) → sum_below 13 (of_rank (c ∷ cs)) ≡ length (c ∷ cs) → rank (largest c cs) < 13
+all_below : (c : ℕ) (cs : List ℕ) → sum_below 13 (of_rank (c ∷ cs)) ≡ length (c ∷ cs) → rank (largest (c ∷ cs)) < 13
 unfolding of_rank
-all_below c cs e = ltb-true (rank (largest c cs)) 13 (of_largest (λ x. ltb (rank x) 13) c cs (heaps_full rank 13 (c ∷ cs) e))
+all_below c cs e = ltb-true (rank (largest (c ∷ cs))) 13 (of_largest (λ x. ltb (rank x) 13) c cs (heaps_full rank 13 (c ∷ cs) e))
 
-all_counted : (c : ℕ) (cs : List ℕ) → eqb (sum_below 13 (of_rank (c ∷ cs))) (length (c ∷ cs)) ≡ ltb (largest c cs) 52
+all_counted : (c : ℕ) (cs : List ℕ) → eqb (sum_below 13 (of_rank (c ∷ cs))) (length (c ∷ cs)) ≡ ltb (largest (c ∷ cs)) 52
 unfolding of_rank
 all_counted c cs =
-    same_true (eqb (sum_below 13 (of_rank (c ∷ cs))) (length (c ∷ cs))) (ltb (largest c cs) 52)
-    (λ t. lt-ltb (largest c cs) 52 (omega (arith, all_below c cs (eqb-true _ _ t))))
+    same_true (eqb (sum_below 13 (of_rank (c ∷ cs))) (length (c ∷ cs))) (ltb (largest (c ∷ cs)) 52)
+    (λ t. lt-ltb (largest (c ∷ cs)) 52 (omega (arith, all_below c cs (eqb-true _ _ t))))
     (λ t.
-    let low = every_of_at (λ x. ltb x 52) (c ∷ cs) (each_below 52 c cs (ltb-true (largest c cs) 52 t)) in
+    let low = every_of_at (λ x. ltb x 52) (c ∷ cs) (each_below 52 c cs (ltb-true (largest (c ∷ cs)) 52 t)) in
     eq-eqb _ _ (heaps_whole rank 13 (c ∷ cs) (λ k h. omega (arith, ltb-true (get_or (c ∷ cs) k 0) 52 (low k h)))))
 
-pub five_ranks : (a b c d e : ℕ)
-    → (apart (of_rank (a ∷ b ∷ c ∷ d ∷ e ∷ [])) && ltb (max a (max b (max c (max d e)))) 52) ≡ eqb (of_a_kind 1 (of_rank (a ∷ b ∷ c ∷ d ∷ e ∷ []))) 5
-unfolding largest
-five_ranks a b c d e =
-    let cs = a ∷ b ∷ c ∷ d ∷ e ∷ [] in
-    ap (λ (t : Bool). apart (of_rank cs) && t) (sym (all_counted a (b ∷ c ∷ d ∷ e ∷ []))) ∙ five-apart (of_rank cs) (few_cards cs)
+pub five_ranks : (cs : List ℕ) → length cs ≡ 5 → (apart (of_rank cs) && ltb (largest cs) 52) ≡ eqb (of_a_kind 1 (of_rank cs)) 5
+five_ranks [] e = absurd (omega arith)
+five_ranks (c ∷ cs) e =
+    let all = c ∷ cs in
+    ap (λ (t : Bool). apart (of_rank all) && t) (sym (all_counted c cs) ∙ ap (λ n. eqb (sum_below 13 (of_rank all)) n) e)
+    ∙ five-apart (of_rank all) (omega (arith, few_cards all))
 
 -- where each counts, the largest has the highest rank
-highest_card : (c : ℕ) (cs : List ℕ) → sum_below 13 (of_rank (c ∷ cs)) ≡ length (c ∷ cs) → rank (largest c cs) ≡ highest 13 (of_rank (c ∷ cs))
-highest_card c cs e = sym (highest_is 13 (rank (largest c cs)) (of_rank (c ∷ cs)) (all_below c cs e) (there c cs) (λ r l m. none_above c cs r l))
+highest_card : (c : ℕ) (cs : List ℕ) → sum_below 13 (of_rank (c ∷ cs)) ≡ length (c ∷ cs) → rank (largest (c ∷ cs)) ≡ highest 13 (of_rank (c ∷ cs))
+highest_card c cs e = sym (highest_is 13 (rank (largest (c ∷ cs))) (of_rank (c ∷ cs)) (all_below c cs e) (there c cs) (λ r l m. none_above c cs r l))
 
--- where five ranks differ, the rank r of the largest card
-pub five-highest : (a b c d e : ℕ) → of_a_kind 1 (of_rank (a ∷ b ∷ c ∷ d ∷ e ∷ [])) ≡ 5
-    → (r : ℕ) → r ≡ rank (max a (max b (max c (max d e)))) → r ≡ highest 13 (of_rank (a ∷ b ∷ c ∷ d ∷ e ∷ []))
-unfolding largest
-five-highest a b c d e five r is =
-    let cs = a ∷ b ∷ c ∷ d ∷ e ∷ [] in
-    is ∙ highest_card a (b ∷ c ∷ d ∷ e ∷ [])
-    (omega (arith, few_cards cs, five, kinds-sum (of_rank cs) 1, sum_le 13 (λ r. one (eqb (of_rank cs r) 1)) (of_rank cs) (λ r l. once_le (of_rank cs r))))
+-- where five ranks differ, the rank of the largest card
+pub five-highest : (cs : List ℕ) → length cs ≡ 5 → of_a_kind 1 (of_rank cs) ≡ 5 → rank (largest cs) ≡ highest 13 (of_rank cs)
+five-highest [] e five = absurd (omega arith)
+five-highest (c ∷ cs) e five =
+    let all = c ∷ cs in
+    highest_card c cs
+    (omega (arith, e, few_cards all, five, kinds-sum (of_rank all) 1, sum_le 13 (λ r. one (eqb (of_rank all r) 1)) (of_rank all) (λ r l. once_le (of_rank all r))))

@@ -131,12 +131,24 @@ module _ (k m : ℕ) (turn : m + k ≡ 14) (few : k ≤ 4) (h : ℕ → ℕ) (ca
       beyond : (i : ℕ) → m ≤ i → meet_at k (on_line h) i ≡ 0
       beyond i l = omega (arith, meet_le (on_line h) k i k (omega arith), line_past h (k + i) (omega arith))
 
--- of five cards, and of three
-pub five_runs : (h : ℕ → ℕ) → sum_below 13 h ≤ 5 → meet 4 (digits 14 (on_line h)) ≡ starts 5 h
-five_runs h few = runs_begin 4 10 (omega arith) (omega arith) h few few
+-- the line and its next i - 1 neighbours, and one more
+pub meet_more : (i x r : ℕ) → 1 ≤ i → r ≡ meet (i - 1) x → bit_and r (x / 2 ^ (4 * i)) ≡ meet (i + 1 - 1) x
+unfolding meet
+meet_more zero x r p e = absurd (omega arith)
+meet_more (suc j) x r p e =
+    let before : suc j - 1 ≡ j = omega arith in
+    let after : suc j + 1 - 1 ≡ suc j = omega arith in
+    ap (λ y. bit_and y (x / 2 ^ (4 * suc j))) (e ∙ ap (λ k. meet k x) before) ∙ sym (ap (λ k. meet k x) after)
 
-pub three_runs : (h : ℕ → ℕ) → sum_below 13 h ≤ 3 → meet 2 (digits 14 (on_line h)) ≡ starts 3 h
-three_runs h few = runs_begin 2 12 (omega arith) (omega arith) h few (omega arith)
+-- of up to five cards
+pub runs_in : (n i x : ℕ) (h : ℕ → ℕ) → 0 < n → n ≤ 5 → n ≤ i → i ≤ n → sum_below 13 h ≤ n → x ≡ digits 14 (on_line h)
+    → (r : ℕ) → r ≡ meet (i - 1) x → r ≡ starts n h
+runs_in zero i x h p q a b few line r e = absurd (omega arith)
+runs_in (suc k) i x h p q a b few line r e =
+    let at : i - 1 ≡ k = omega arith in
+    let room : 14 - k ≡ 15 - suc k = omega arith in
+    e ∙ ap (λ j. meet j x) at ∙ ap (meet k) line ∙ runs_begin k (14 - k) (omega arith) (omega arith) h few (omega arith)
+    ∙ ap (λ m. digits m (λ i. one (run (suc k) (i + 1) h))) room
 
 -- ---- straights
 

@@ -1,6 +1,6 @@
 -- How often each of the thirteen ranks occurs, in one number: hexadecimal digit r is how often rank r does.
 -- Assumes nothing.
-use Rattle.std.specs.Prelude.{ℕ, zero, suc, ◌+◌, ◌-◌, ◌*◌, ◌≤◌, ◌≡◌, Bool, eqb, ltb, if◌then◌else◌}
+use Rattle.std.specs.Prelude.{ℕ, zero, suc, ◌+◌, ◌-◌, ◌*◌, ◌≤◌, ◌≡◌, max, List, [], ◌∷◌, Bool, eqb, ltb, if◌then◌else◌}
 use Rattle.counting.specs.Choose.{one}
 use Rattle.counting.specs.Count.{sum_below, every_below}
 use Rattle.hands.specs.Hand.{rank_on, run}
@@ -28,6 +28,11 @@ starts n h = digits (15 - n) (λ i. one (run n (i + 1) h))
 -- no rank occurs twice
 unfoldable pub apart : (ℕ → ℕ) → Bool
 apart h = every_below 13 (λ r. ltb (h r) 2)
+
+-- the largest card, 0 where there is none
+unfoldable pub largest : List ℕ → ℕ
+largest [] = 0
+largest (c ∷ cs) = max c (largest cs)
 
 -- the word w says how often each rank occurs in at most n cards
 abbrev pub Has : ℕ → ℕ → (ℕ → ℕ) → Type 0

@@ -6,11 +6,11 @@
 
 #![tactic(auto)]
 
-ghost use Rattle.std.specs.Prelude.{◌≡◌, [], ◌∷◌, max, eqb};
+ghost use Rattle.std.specs.Prelude.{◌≡◌, ◌%◌, ◌^◌, ◌≤◌, ◌<◌, length, [], ◌∷◌, eqb};
 ghost use Rattle.counting.specs.Choose.{one};
 ghost use Rattle.cards.specs.Card.{rank, six, jack, ace};
 ghost use Rattle.hands.specs.Hand.{of_rank, of_suit, kinds, of_a_kind, flush, run, straight};
-ghost use Rattle.words.specs.Word.{digits, word, those, on_line, starts, apart, Says};
+ghost use Rattle.words.specs.Word.{digits, word, those, on_line, starts, apart, largest, Says};
 
 // A rank alone is 16 to its power, and a number that is none is 0.
 pub fn word_of(rank: u8) -> u64
@@ -29,22 +29,16 @@ pub fn word1(card: u8) -> u64
     word_of(cards::rank_of(card))
 }
 
-pub fn word2(a: u8, b: u8) -> u64
-    ensures { result ≡ word (of_rank (a ∷ b ∷ [])) }
+// The sum of what the cards are: the word of up to fifteen cards, the most that a digit can count.
+pub fn word_in(cards: &[u8]) -> u64
+    ensures sum { result ≡ word (of_rank cards.now) % 2 ^ 64 }
+    ensures few { length cards.now ≤ 15 → result ≡ word (of_rank cards.now) }
 {
-    word1(a) + word1(b)
-}
-
-pub fn word3(a: u8, b: u8, c: u8) -> u64
-    ensures { result ≡ word (of_rank (a ∷ b ∷ c ∷ [])) }
-{
-    word1(a) + word2(b, c)
-}
-
-pub fn word5(a: u8, b: u8, c: u8, d: u8, e: u8) -> u64
-    ensures { result ≡ word (of_rank (a ∷ b ∷ c ∷ d ∷ e ∷ [])) }
-{
-    word2(a, b) + word3(c, d, e)
+    let mut word: u64 = 0;
+    for card in cards {
+        word = word.wrapping_add(word1(*card));
+    }
+    word
 }
 
 // No rank occurs twice: no digit has one of its upper bits.
@@ -115,45 +109,43 @@ fn line_of(w: u64) -> u64
     w % 0x10000000000000 * 16 + w / 0x1000000000000 % 16
 }
 
-// Where five cards begin a run: a place of the line that has a card, as have the four after it.
-fn runs5(w: u64) -> u64
-    ensures { Says 5 w (starts 5) result }
+// Where n cards begin a run: a place of the line that has a card, as have the n - 1 after it.
+fn runs(n: u8, w: u64) -> u64
+    requires { (0 < n) × (n ≤ 5) }
+    ensures { Says n w (starts n) result }
 {
     let line = line_of(w);
-    line & line / 0x10 & line / 0x100 & line / 0x1000 & line / 0x10000
-}
-
-fn runs3(w: u64) -> u64
-    ensures { Says 3 w (starts 3) result }
-{
-    let line = line_of(w);
-    line & line / 0x10 & line / 0x100
+    let mut runs = line;
+    for i in 1..n {
+        runs &= line >> (4 * i);
+    }
+    runs
 }
 
 pub fn is_straight5(w: u64) -> bool
     ensures { Says 5 w (straight 5) result }
 {
-    runs5(w) != 0
+    runs(5, w) != 0
 }
 
 // 10-J-Q-K-A begins at place 9, and no run of five above it.
 pub fn is_royal5(w: u64) -> bool
     ensures { Says 5 w (run 5 10) result }
 {
-    runs5(w) / 0x1000000000 != 0
+    runs(5, w) / 0x1000000000 != 0
 }
 
 pub fn is_straight3(w: u64) -> bool
     ensures { Says 3 w (straight 3) result }
 {
-    runs3(w) != 0
+    runs(3, w) != 0
 }
 
 // Q-K-A begins at place 11, and no run of three above it.
 pub fn is_royal3(w: u64) -> bool
     ensures { Says 3 w (run 3 12) result }
 {
-    runs3(w) / 0x100000000000 != 0
+    runs(3, w) / 0x100000000000 != 0
 }
 
 pub fn aces_in(w: u64) -> u64
@@ -169,60 +161,39 @@ pub fn has_face(w: u64) -> bool
     (w & 0x1111111111111) / 0x1000000000 % 0x1000 % 15 == 1
 }
 
-fn larger(a: u8, b: u8) -> u8
-    ensures { result ≡ max a b }
+// The largest card, and 0 where there is none.
+fn largest(cards: &[u8]) -> u8
+    ensures { result ≡ largest cards.now }
 {
-    if a < b { b } else { a }
+    let mut top = 0;
+    for card in cards {
+        top = (*card).max(top);
+    }
+    top
 }
 
-fn largest5(a: u8, b: u8, c: u8, d: u8, e: u8) -> u8
-    ensures { result ≡ max a (max b (max c (max d e))) }
+// The rank of the largest of some cards, which is the highest.
+pub fn top_rank(cards: &[u8]) -> u8
+    ensures { result ≡ rank (largest cards.now) }
 {
-    larger(a, larger(b, larger(c, larger(d, e))))
-}
-
-// The rank of the largest of five cards, which is the highest.
-pub fn top_rank(a: u8, b: u8, c: u8, d: u8, e: u8) -> u8
-    ensures { result ≡ rank (max a (max b (max c (max d e)))) }
-{
-    cards::rank_of(largest5(a, b, c, d, e))
+    cards::rank_of(largest(cards))
 }
 
 // The ranks of five cards all differ: none occurs twice, and all five are cards.
-pub fn are_five(a: u8, b: u8, c: u8, d: u8, e: u8) -> bool
-    ensures { result ≡ eqb (of_a_kind 1 (of_rank (a ∷ b ∷ c ∷ d ∷ e ∷ []))) 5 }
+pub fn are_five(cards: [u8; 5]) -> bool
+    ensures { result ≡ eqb (of_a_kind 1 (of_rank cards)) 5 }
 {
-    is_apart(word5(a, b, c, d, e)) & (largest5(a, b, c, d, e) < 52)
+    is_apart(word_in(&cards)) & (largest(&cards) < 52)
 }
 
-pub fn is_suited5(a: u8, b: u8, c: u8, d: u8, e: u8) -> bool
-    ensures { result ≡ flush 5 (of_suit (a ∷ b ∷ c ∷ d ∷ e ∷ [])) }
+// Cards are of one suit where each is of the first one's; of no cards each suit has as many as there are. With no branch: which card is of another suit can't be foretold.
+pub fn is_suited(cards: &[u8]) -> bool
+    ensures { result ≡ flush (length cards.now) (of_suit cards.now) }
 {
-    let first = cards::suit_of(a);
-    (cards::suit_of(b) == first)
-        & ((cards::suit_of(c) == first)
-            & ((cards::suit_of(d) == first) & (cards::suit_of(e) == first)))
-}
-
-pub fn is_suited6(a: u8, b: u8, c: u8, d: u8, e: u8, f: u8) -> bool
-    ensures { result ≡ flush 6 (of_suit (a ∷ b ∷ c ∷ d ∷ e ∷ f ∷ [])) }
-{
-    let first = cards::suit_of(a);
-    (cards::suit_of(b) == first)
-        & ((cards::suit_of(c) == first)
-            & ((cards::suit_of(d) == first)
-                & ((cards::suit_of(e) == first) & (cards::suit_of(f) == first))))
-}
-
-pub fn is_suited3(a: u8, b: u8, c: u8) -> bool
-    ensures { result ≡ flush 3 (of_suit (a ∷ b ∷ c ∷ [])) }
-{
-    let first = cards::suit_of(a);
-    (cards::suit_of(b) == first) & (cards::suit_of(c) == first)
-}
-
-pub fn is_suited2(a: u8, b: u8) -> bool
-    ensures { result ≡ flush 2 (of_suit (a ∷ b ∷ [])) }
-{
-    cards::suit_of(b) == cards::suit_of(a)
+    let first = cards::suit_of(counting::at(cards, 0, 0));
+    let mut suited = true;
+    for card in cards {
+        suited &= cards::suit_of(*card) == first;
+    }
+    suited
 }

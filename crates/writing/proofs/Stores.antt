@@ -3,11 +3,16 @@
 use Prim.Native.Nat.{ℕ, zero, suc, ◌+◌, ◌-◌, ◌/◌, ◌%◌, ◌≤◌, ◌<◌}
 use mathlib.Core.Path.{◌≡◌, refl, ap, sym, ◌∙◌}
 use mathlib.Core.Bool.{Bool, true, false}
-use mathlib.Core.List.{List, ◌++◌, append-nil}
+use mathlib.Core.List.{List, ◌++◌, append-nil, append_assoc}
 use native.Mathlib.Numerals.{add-one}
 use native.Mathlib.Omega.{arith}
-use lib.ListN.{length, length-append}
-use lib.Seq.{sets, length-sets}
+use lib.ListN.{length, take, drop, length-append}
+use lib.Seq.{sets, sets-eq, length-sets}
+use borrow.Rule.Slice.PartMut.{put_mid}
+use Rattle.std.specs.Prelude.{Option, None, Some, option_to_list}
+use Rattle.std.specs.Bool.{then_some}
+use Rattle.std.proofs.lemmas.Slice.{put_mid-paste}
+use Rattle.std.proofs.lemmas.List.Edits.{paste_all}
 use Rattle.counting.specs.Count.{gather}
 use Rattle.counting.proofs.Gathers.{gather_rows}
 use Rattle.counting.proofs.Stores.{sets_append}
@@ -31,13 +36,22 @@ stored_then lent at xs room end ys new far s t =
 
 -- ---- one record, where there is one
 
-pub stored_absent : (lent : List ℕ) (at : ℕ) (t : Bool) (b : List ℕ) → t ≡ false → Stored lent at (joined (only t b)) lent at
-unfolding joined
-stored_absent lent at t b e = rw e (record { list = refl; end = omega arith })
+pub only_some : (t : Bool) (b : List ℕ) → option_to_list (then_some t b) ≡ only t b
+only_some true b = refl
+only_some false b = refl
 
-pub present : (t : Bool) (b : List ℕ) → t ≡ true → joined (only t b) ≡ b
+pub stored_none : (lent : List ℕ) (at : ℕ) (o : Option (List ℕ)) → o ≡ None → Stored lent at (joined (option_to_list o)) lent at
 unfolding joined
-present t b e = rw e (append-nil b)
+stored_none lent at o e = rw e (record { list = refl; end = omega arith })
+
+pub bytes_of : (o : Option (List ℕ)) (b : List ℕ) → o ≡ Some b → joined (option_to_list o) ≡ b
+unfolding joined
+bytes_of o b e = rw e (append-nil b)
+
+-- n bytes from byte `at` on, stored as one part
+pub sets_part : (lent : List ℕ) (at n : ℕ) (b new : List ℕ) → new ≡ b → n ≡ length b → at + n ≤ length lent → put_mid at n lent new ≡ sets lent at b
+sets_part lent at n b new e p h =
+    put_mid-paste at n lent new b n e refl p ∙ paste_all lent at b n p ∙ rw p (sym (sets-eq b lent at (rw (← p) h) ∙ append_assoc (take at lent) b (drop (at + length b) lent)))
 
 -- ---- the records of several places
 

@@ -1,13 +1,13 @@
 -- Writing the file of a held round.
 -- Assumes nothing.
-use Rattle.std.specs.Prelude.{ℕ, ◌*◌, not, List, eqb, length, if◌then◌else◌}
+use Rattle.std.specs.Prelude.{ℕ, ◌*◌, not, List, Result, eqb, length, if◌then◌else◌}
+use Rattle.causes.specs.declared.Refusal.{Refusal}
+use Rattle.causes.specs.Refusal.{answered}
 use Rattle.seating.specs.Table.{has_table}
 use Rattle.round.specs.declared.Round.{Round}
 use Rattle.led.specs.Held.{is_held}
 use Rattle.led.specs.Records.{records_of, records_taken}
 use Rattle.reading.specs.Joined.{joined}
-use Rattle.writing.specs.declared.WriteAnswer.{WriteAnswer}
-use Rattle.writing.specs.declared.WriteAnswer.TheVariants.{Written, Refused}
 
 -- The file of a held round: table, seats, deck parts, then choices by street and by rising seat, as far as the round has come.
 unfoldable pub file_of : Round → List ℕ
@@ -26,15 +26,10 @@ write_refusal r room =
     else if not (eqb room (length (file_of r))) then 1
     else 0
 
--- refused with its number, or written
-unfoldable pub write_answer : Round → ℕ → WriteAnswer
-write_answer r room = if not (eqb (write_refusal r room) 0) then Refused (write_refusal r room) else Written
+-- refused, or written
+unfoldable pub write_answer : Round → ℕ → Result (Unit {0}) Refusal
+write_answer r room = answered (write_refusal r room) tt
 
 -- The room then holds the file; after a refusal it is unchanged.
 unfoldable pub write_list : Round → List ℕ → List ℕ
 write_list r lent = if not (eqb (write_refusal r (length lent)) 0) then lent else file_of r
-
--- this paper's number for each answer: the refusal's, and 0 where the file is written
-abbrev pub write_number : WriteAnswer → ℕ
-write_number Written = 0
-write_number (Refused number) = number

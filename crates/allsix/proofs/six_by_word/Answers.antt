@@ -1,18 +1,24 @@
-use mathlib.Core.Path.{sym, ◌∙◌}
+use Rattle.std.proofs.Common.{◌≡◌, length, rules, ap, sym, ◌∙◌}
 use borrow.Author.Tests.{eq-eqb, ne_eqb}
-use Rattle.allsix.specs.Six.{name_six}
+use Rattle.counting.specs.Count.{gather}
+use Rattle.counting.proofs.Gathers.{each_of}
+use Rattle.allsix.specs.Six.{best_of_six, name_six}
 use Rattle.allsix.proofs.six_by_word.Goals as goal
+
+pub returns-then-not-is_six_royal : goal.returns-then-not-is_six_royal
+unfolding name_six gather
+returns-then-not-is_six_royal c =
+    let cards = c.args.cards in
+    let six : length cards ≡ 6 = search rules in
+    let best : c.best_of_six.result ≡ best_of_six cards = c.best_of_six.ensures ∙ sym (ap best_of_six (each_of cards 6 six)) in
+    simp (sym c.is_six_royal.ensures ∙ c.if-not-is_six_royal.true, best)
 
 pub returns-then-of_suit-eq6 : goal.returns-then-of_suit-eq6
 unfolding name_six
 returns-then-of_suit-eq6 c =
-    simp (sym c.is_six_royal.ensures ∙ c.if-is_six_royal.true, eq-eqb _ _ (sym c.of_suit.ensures ∙ c.if-of_suit-eq6.true))
+    simp (sym c.is_six_royal.ensures ∙ c.if-not-is_six_royal.false, eq-eqb _ _ (sym c.of_suit.ensures ∙ c.if-of_suit-eq6.true))
 
-pub returns-then-is_six_royal : goal.returns-then-is_six_royal
+pub returns-else-of_suit-eq6 : goal.returns-else-of_suit-eq6
 unfolding name_six
-returns-then-is_six_royal c =
-    simp (sym c.is_six_royal.ensures ∙ c.if-is_six_royal.true, ne_eqb _ _ (rw c.of_suit.ensures at c.if-of_suit-eq6.false))
-
-pub returns : goal.returns
-unfolding name_six
-returns c = simp (sym c.is_six_royal.ensures ∙ c.if-is_six_royal.false, c.best_of_six.ensures)
+returns-else-of_suit-eq6 c =
+    simp (sym c.is_six_royal.ensures ∙ c.if-not-is_six_royal.false, ne_eqb _ _ (rw c.of_suit.ensures at c.if-of_suit-eq6.false))

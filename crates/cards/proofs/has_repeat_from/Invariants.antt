@@ -1,21 +1,13 @@
 -- Outer loop: none of the places from `from` to below i repeats an earlier one. Inner loop: besides, place i differs from each place below j.
-use Prim.Native.Nat.{◌≤◌, ◌<◌, ◌-◌}
 use mathlib.Core.Path.{◌≡◌}
 use mathlib.Core.Bool.{false}
-use lib.ListN.{length}
 use Rattle.counting.specs.Count.{some_below}
 use Rattle.cards.specs.Deck.{same_at}
 use Rattle.cards.proofs.Repeats.{NewTo}
 use Rattle.cards.proofs.has_repeat_from.Given as goal
 
 abbrev pub invariant-loop-j : goal.invariant-loop-j
-invariant-loop-j l = (l.from ≤ l.i) × (l.i < length l.cards) × (l.j ≤ l.i) × (l.found ≡ false) × NewTo l.from l.cards l.i × (some_below l.j (same_at l.cards l.i) ≡ false)
-
-abbrev pub decreases-loop-j : goal.decreases-loop-j
-decreases-loop-j l = l.i - l.j
+invariant-loop-j l = (l.found ≡ false) × NewTo l.from l.cards l.i × (some_below l.j (same_at l.cards l.i) ≡ false)
 
 abbrev pub invariant-places : goal.invariant-places
-invariant-places l = (l.from ≤ l.i) × (l.found ≡ false) × NewTo l.from l.cards l.i
-
-abbrev pub decreases-places : goal.decreases-places
-decreases-places l = length l.cards - l.i
+invariant-places l = (l.found ≡ false) × NewTo l.from l.cards l.i

@@ -1,31 +1,17 @@
-use native.Mathlib.Omega.{arith}
-use lib.ListN.{length-drop}
-use Rattle.reading.proofs.Records.{rest_of}
-use Rattle.cutting.proofs.Cuts.{first-cut, count_more, count_all}
+use Rattle.std.proofs.Common.{rules, tests, ap, sym, refl, ◌∙◌, ◌+◌, length}
+use Rattle.std.specs.Slice.Iter.{chunks_exact_rest}
+use Rattle.std.proofs.lemmas.Iterator.Consumers.{YieldsList-at, YieldsList-from_filter, count_from_yields_List}
+use Rattle.reading.proofs.Records.{YieldsList-from_records}
+use Rattle.cutting.specs.Rounds.{starts_round, round_count}
+use Rattle.cutting.proofs.Cuts.{rounds_none, first_counts}
 use Rattle.cutting.proofs.count_rounds.Goals as goal
 
-pub loop-rest-init : goal.loop-rest-init
-loop-rest-init c = (omega arith, omega arith)
+pub returns-in-None : goal.returns-in-None
+returns-in-None c = sym (ap length (rounds_none _ (search (rules, tests))))
 
-pub slice_bounds-rest-count : goal.slice_bounds-rest-count
-slice_bounds-rest-count c = (first-cut _ _ c.first_round-end.ensures c.loop-rest-test.true).1
-
-pub slice_bounds-rest-start : goal.slice_bounds-rest-start
-slice_bounds-rest-start c = (first-cut _ _ c.first_round-end.ensures c.loop-rest-test.true).1
-
-pub overflow_add-count : goal.overflow_add-count
-overflow_add-count c = let v = c.loop-rest.invariant in let t = c.loop-rest-test.true in omega arith
-
-pub loop-rest-smaller : goal.loop-rest-smaller
-loop-rest-smaller c =
-    let k = first-cut _ _ c.first_round-end.ensures c.loop-rest-test.true in
-    simp (rest_of, length-drop) (omega arith)
-
-pub loop-rest-preserved : goal.loop-rest-preserved
-loop-rest-preserved c =
-    let v = c.loop-rest.invariant in
-    let k = first-cut _ _ c.first_round-end.ensures c.loop-rest-test.true in
-    (simp (rest_of, length-drop) (omega arith), simp rest_of (count_more _ _ _ v.1 c.first_round-end.result k.2))
-
-pub returns : goal.returns
-returns c = count_all _ _ _ c.loop-rest.invariant.1 c.loop-rest-test.false
+pub returns-in-Some : goal.returns-in-Some
+returns-in-Some c =
+    let later =
+    count_from_yields_List _ _ c.count.ensures.ran
+    (YieldsList-from_filter _ starts_round (YieldsList-at c.filter.ensures.source (YieldsList-from_records (chunks_exact_rest c.next.new.self) (refl) (cc))) c.filter.ensures.closure (λ x b q k. search (rules, tests))) in
+    ap (λ n. 1 + n) later ∙ first_counts c.in-Some.field-0.now (chunks_exact_rest c.next.new.self) (search rules) ∙ ap round_count (search rules)

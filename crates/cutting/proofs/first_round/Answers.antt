@@ -1,30 +1,19 @@
-use native.Mathlib.Omega.{arith}
-use Rattle.cutting.proofs.Cuts.{none_first, open_start, open_more, open_ends, open_last, ends_first}
+use Rattle.std.proofs.Common.{rules, tests, not}
+use Rattle.std.proofs.lemmas.Iterator.Adapters.{YieldsList-from_skip}
+use Rattle.std.proofs.lemmas.Iterator.Consumers.{YieldsList-at, count_from_yields_List}
+use Rattle.std.proofs.lemmas.Iterator.Search.{YieldsList-from_take_while}
+use Rattle.reading.proofs.Records.{YieldsList-from_records}
+use Rattle.cutting.specs.Rounds.{starts_round}
+use Rattle.cutting.proofs.Cuts.{none_first, later_count}
 use Rattle.cutting.proofs.first_round.Goals as goal
 
 pub returns-then-file-lt16 : goal.returns-then-file-lt16
 returns-then-file-lt16 c = none_first _ c.if-file-lt16.true
 
-pub loop-at-init : goal.loop-at-init
-loop-at-init c = (omega arith, c.if-file-lt16.false, open_start _ c.if-file-lt16.false)
-
-pub overflow_sub-file : goal.overflow_sub-file
-overflow_sub-file c = c.loop-at.invariant.1
-
-pub returns-then-file-at-eq1 : goal.returns-then-file-at-eq1
-returns-then-file-at-eq1 c =
-    let v = c.loop-at.invariant in
-    let t = c.loop-at-test.true in
-    ends_first _ _ v.1 (open_ends _ _ v.2 (omega arith) c.if-file-at-eq1.true)
-
-pub overflow_add-at : goal.overflow_add-at
-overflow_add-at c = let v = c.loop-at.invariant in let t = c.loop-at-test.true in omega arith
-
-pub loop-at-preserved : goal.loop-at-preserved
-loop-at-preserved c =
-    let v = c.loop-at.invariant in
-    let t = c.loop-at-test.true in
-    (omega arith, omega arith, open_more _ _ v.2 (omega arith) c.if-file-at-eq1.false)
-
 pub returns : goal.returns
-returns c = let v = c.loop-at.invariant in ends_first _ _ v.1 (open_last _ _ v.2 c.loop-at-test.false)
+returns c =
+    later_count _ c.if-file-lt16.false _
+    (count_from_yields_List _ _ c.count-more.ensures.ran
+    (YieldsList-from_take_while _ (λ b. not (starts_round b))
+    (YieldsList-at c.take_while.ensures.source (YieldsList-from_skip 1 (YieldsList-at c.skip-later.ensures.source (YieldsList-from_records c.args.file.now (cc) (cc))) cc))
+    c.take_while.ensures.closure c.take_while.ensures.done (λ x b q k. search (rules, tests))))

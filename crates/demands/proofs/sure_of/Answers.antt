@@ -17,4 +17,4 @@ overflow_mul-part c =
 
 pub returns : goal.returns
 unfolding floor_of
-returns c = simp (c.least.ensures, c.other_win-other.ensures, c.maximum_of-most.ensures)
+returns c = simp (c.min.ensures, c.other_win-other.ensures, c.maximum_of-most.ensures)

@@ -1,32 +1,31 @@
-use mathlib.Core.Path.{refl}
-use native.Mathlib.Omega.{arith}
-use lib.ListN.{take, length-take}
-use Rattle.text.proofs.Writes.{onward_more, onward_over}
+use Rattle.std.proofs.Common.{rules, map, [], ◌∷◌, ap, ◌∙◌}
+use Rattle.std.proofs.lemmas.List.{map-append}
+use Rattle.std.specs.Slice.Iter.{chunks_exact_rest}
+use Rattle.text.proofs.Writes.{puts_both, puts_none}
 use Rattle.reading.specs.File.{file_records}
-use Rattle.reading.proofs.Records.{rest_of}
-use Rattle.digits.specs.Digits.{spelled_one, spelled}
-use Rattle.digits.proofs.Spells.{spelled_more, spelled_over}
-use borrow.Author.Rules.{rules}
+use Rattle.digits.specs.Digits.{spelled}
+use Rattle.digits.proofs.Spells.{spelled_push, records_more, records_all}
 use Rattle.digits.proofs.put_records.Goals as goal
 
-pub loop-rest-init : goal.loop-rest-init
-loop-rest-init c = (refl, (refl, refl))
+pub loop-record-init : goal.loop-record-init
+unfolding spelled
+loop-record-init c = (search rules, ap file_records (search rules), puts_none _)
 
-pub slice_bounds-put_record-end : goal.slice_bounds-put_record-end
-slice_bounds-put_record-end c = simp length-take (omega arith)
-
-pub loop-rest-preserved : goal.loop-rest-preserved
-loop-rest-preserved c =
-    let l = c.loop-rest in
-    let rest = l.rest.now in
-    let all = spelled (file_records c.args.file.now) in
-    let step = spelled_more rest c.loop-rest-test.true in
-    let on = onward_more _ _ all l.room l.next _ l.invariant.1 (spelled_one (take 16 rest)) _ step _ _ (c.put_record-next.ensures.place, c.put_record-next.ensures.text) in
-    (search rules, simp rest_of on)
+pub loop-record-preserved : goal.loop-record-preserved
+loop-record-preserved c =
+    let l = c.loop-record in
+    let next = c.in-Some.ensures.steps in
+    let one = c.in-Some.record.now in
+    let later = chunks_exact_rest c.next.new.self in
+    let done = map (λ r. r.now) l.yielded in
+    let more = map-append (λ r. r.now) l.yielded (c.in-Some.record ∷ []) in (
+      next.0 ∙ l.invariant.0,
+      rw more (records_more done _ _ l.invariant.1 one later next.1.0 (next.1.1 ∙ l.invariant.0)),
+      rw (more, spelled_push done one) (puts_both l.invariant.2 c.put_record.ensures),
+    )
 
 pub returns : goal.returns
 returns c =
-    let l = c.loop-rest in
-    let all = spelled (file_records c.args.file.now) in
-    let both = onward_over _ _ all l.room l.next _ l.invariant.1 (spelled_over l.rest.now c.loop-rest-test.false) in
-    record { place = both.0; text = both.1 }
+    let l = c.loop-record in
+    let none = c.in-None.ensures.steps.1.0 in
+    rw (records_all _ _ _ l.invariant.1 (rw l.invariant.0 at none)) at l.invariant.2

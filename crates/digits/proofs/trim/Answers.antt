@@ -12,13 +12,11 @@ slice_bounds-result-end c = sym (length-take-le _ c.args.bytes.now (search rules
 
 pub returns-then-is_zero_from : goal.returns-then-is_zero_from
 returns-then-is_zero_from c =
-    let l = c in
-    kept_zero l.args.bytes.now _ l.loop-n.invariant (sym c.is_zero_from.ensures ∙ c.if-is_zero_from.true)
+    kept_zero c.args.bytes.now _ c.loop-n.invariant (sym c.is_zero_from.ensures ∙ c.if-is_zero_from.true)
 
 pub loop-n-preserved : goal.loop-n-preserved
 loop-n-preserved c =
-    let l = c in
-    kept_more l.args.bytes.now _ l.loop-n.invariant c.loop-n-test.true (sym c.is_zero_from.ensures ∙ c.if-is_zero_from.false)
+    kept_more c.args.bytes.now _ c.loop-n.invariant c.loop-n-test.true (sym c.is_zero_from.ensures ∙ c.if-is_zero_from.false)
 
 pub returns : goal.returns
 returns c = kept_all c.args.bytes.now _ c.loop-n.invariant c.loop-n-test.false

@@ -1,20 +1,16 @@
-use mathlib.Core.Path.{refl, sym, ◌∙◌}
-use native.Mathlib.Omega.{arith}
-use Rattle.hands.proofs.Highest.{highest_here, highest_below, highest-none}
+use Rattle.std.proofs.Common.{rules, tests, arith, ◌∙◌, sym, ap, ltb, ℕ}
+use Rattle.std.specs.Prelude.{Option, unwrap_or}
+use Rattle.std.proofs.lemmas.Iterator.Adapters.{option_map_id}
+use Rattle.std.proofs.lemmas.Iterator.Search.{find_from_yields_List}
+use Rattle.counting.proofs.Library.{YieldsList-from_down}
+use Rattle.hands.specs.Hand.{of_rank}
+use Rattle.hands.proofs.Highest.{highest-find}
 use Rattle.hands.proofs.highest_of.Goals as goal
 
-pub loop-n-init : goal.loop-n-init
-loop-n-init c = (omega arith, refl)
-
-pub returns-then-of_rank-gt0 : goal.returns-then-of_rank-gt0
-returns-then-of_rank-gt0 c =
-    let p = c in
-    sym (highest_here _ _ p.loop-n-test.true (rw c.of_rank.ensures at c.if-of_rank-gt0.true)) ∙ p.loop-n.invariant.1
-
-pub loop-n-preserved : goal.loop-n-preserved
-loop-n-preserved c =
-    let p = c in
-    (omega arith, sym (highest_below _ _ p.loop-n-test.true (rw c.of_rank.ensures at c.if-of_rank-gt0.false)) ∙ p.loop-n.invariant.1)
-
 pub returns : goal.returns
-returns c = sym (highest-none _ _ c.loop-n-test.false) ∙ c.loop-n.invariant.1
+returns c =
+    let occurs = λ (r : ℕ). ltb 0 (of_rank c.args.cards.now r) in
+    let found = find_from_yields_List occurs _ _ c.find.result c.find.ensures.ran (YieldsList-from_down 0 13 13 (cc) (omega arith)) (λ x b q k. search (rules, tests)) in
+    c.unwrap_or.ensures
+    ∙ ap (λ (o : Option ℕ). unwrap_or o 0) (sym (option_map_id c.find.result) ∙ found)
+    ∙ highest-find 13 (of_rank c.args.cards.now)

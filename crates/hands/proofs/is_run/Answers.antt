@@ -1,26 +1,14 @@
-use mathlib.Core.Path.{sym}
-use borrow.Author.Tests.{le-leb, lt-leb}
-use borrow.Author.Rules.{rules}
-use Rattle.counting.proofs.Ranges.{every_none, every_more, every_done, every_broken}
-use Rattle.hands.specs.Hand.{run}
+use Rattle.std.proofs.Common.{rules, tests, arith, ◌+◌, leb}
+use Rattle.std.proofs.lemmas.Iterator.{YieldsList-from_range}
+use Rattle.std.proofs.lemmas.Iterator.Search.{all_from_yields_List}
+use Rattle.counting.proofs.Library.{every_range}
+use Rattle.hands.specs.Hand.{of_rank, rank_on, run}
 use Rattle.hands.proofs.is_run.Goals as goal
-
-pub loop-i-init : goal.loop-i-init
-loop-i-init c = (search rules, every_none _)
-
-pub returns-then-of_rank-lt1 : goal.returns-then-of_rank-lt1
-unfolding run
-returns-then-of_rank-lt1 c =
-    let q = c in
-    sym (every_broken _ _ _ q.loop-i-test.true (lt-leb 1 _ (rw (c.of_rank.ensures, q.rank_on.ensures) at c.if-of_rank-lt1.true)))
-
-pub loop-i-preserved : goal.loop-i-preserved
-loop-i-preserved c =
-    let q = c in
-    (search rules, every_more _ _ q.loop-i.invariant.1 (le-leb 1 _ (rw (c.of_rank.ensures, q.rank_on.ensures) at c.if-of_rank-lt1.false)))
 
 pub returns : goal.returns
 unfolding run
 returns c =
-    let v = c.loop-i.invariant in
-    sym (every_done _ _ _ v.1 v.0 c.loop-i-test.false)
+    let v = c.args in
+    rw every_range (
+    all_from_yields_List (λ i. leb 1 (of_rank v.cards.now (rank_on (v.p + i)))) _ _ _ c.all.ensures.ran (YieldsList-from_range 0 v.n v.n (cc) (omega arith)) (λ x b q k. search (rules, tests))
+    )

@@ -1,18 +1,14 @@
-use borrow.Author.Tests.{eq-eqb, ne_eqb}
-use Rattle.counting.proofs.Ranges.{tally-none, tally_hit, tally_miss, tally-done}
-use Rattle.hands.specs.Hand.{kinds}
+use Rattle.std.proofs.Common.{rules, tests, arith, ◌∙◌, ℕ, ◌+◌, eqb}
+use Rattle.std.proofs.lemmas.Iterator.{YieldsList-from_range}
+use Rattle.std.proofs.lemmas.Iterator.Consumers.{count_from_yields_List, YieldsList-from_filter}
+use Rattle.counting.proofs.Library.{kept_tally}
+use Rattle.hands.specs.Hand.{of_rank, kinds}
 use Rattle.hands.proofs.kinds_of.Goals as goal
-use Rattle.hands.proofs.kinds_of.Goals.{then-of_rank-k, else-of_rank-k}
-
-pub loop-i-init : goal.loop-i-init
-loop-i-init c = tally-none _ _
-
-pub loop-i-preserved : goal.loop-i-preserved
-loop-i-preserved c =
-    let p = c in
-    let e = c.of_rank.ensures in
-    elim c.if-of_rank-k.branch [ then-of_rank-k w ↦ rw w.found-is (tally_hit _ _ _ _ p.loop-i.invariant p.loop-i-test.true (eq-eqb _ _ (rw e at w.if-of_rank-k.true))) | else-of_rank-k w ↦ rw w.found-is (tally_miss _ _ _ _ p.loop-i.invariant p.loop-i-test.true (ne_eqb _ _ (rw e at w.if-of_rank-k.false))) ]
 
 pub returns : goal.returns
 unfolding kinds
-returns c = tally-done _ _ _ _ c.loop-i.invariant c.loop-i-test.false
+returns c =
+    let v = c.args in
+    let test = λ (i : ℕ). eqb (of_rank v.cards.now (v.lo + i)) v.k in
+    count_from_yields_List c.filter.result c.count.result c.count.ensures.ran (YieldsList-from_filter _ test (YieldsList-from_range 0 v.n v.n (cc) (omega arith)) c.filter.ensures.closure (λ x r q k. search (rules, tests)))
+    ∙ kept_tally test v.n

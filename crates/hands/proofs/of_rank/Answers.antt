@@ -1,15 +1,15 @@
-use mathlib.Core.Path.{sym, ◌∙◌}
-use borrow.Author.Tests.{eq-eqb, ne_eqb}
-use Rattle.counting.proofs.Lists.{count_hit, count_miss, count-done}
+use Rattle.std.proofs.Common.{rules, tests, ◌∙◌, ℕ, eqb}
+use Rattle.std.proofs.lemmas.Iterator.{YieldsList-from_slice}
+use Rattle.std.proofs.lemmas.Iterator.Consumers.{count_from_yields_List, YieldsList-from_filter}
+use Rattle.counting.proofs.Library.{kept_count}
+use Rattle.cards.specs.Card.{rank}
 use Rattle.hands.specs.Hand.{of_rank}
 use Rattle.hands.proofs.of_rank.Goals as goal
-use Rattle.hands.proofs.of_rank.Goals.{then-rank_of-r, else-rank_of-r}
-
-pub loop-i-preserved : goal.loop-i-preserved
-loop-i-preserved c =
-    let p = c in
-    elim c.if-rank_of-r.branch [ then-rank_of-r w ↦ rw w.n-is (count_hit _ _ _ _ p.loop-i.invariant p.loop-i-test.true (eq-eqb _ _ (sym c.rank_of.ensures ∙ w.if-rank_of-r.true))) | else-rank_of-r w ↦ rw w.n-is (count_miss _ _ _ _ p.loop-i.invariant p.loop-i-test.true (ne_eqb _ _ (rw c.rank_of.ensures at w.if-rank_of-r.false))) ]
 
 pub returns : goal.returns
 unfolding of_rank
-returns c = count-done _ _ _ _ c.loop-i.invariant c.loop-i-test.false
+returns c =
+    let cards = c.args.cards.now in
+    let test = λ (x : ℕ). eqb (rank x) c.args.r in
+    count_from_yields_List c.filter.result c.count.result c.count.ensures.ran (YieldsList-from_filter _ test (YieldsList-from_slice cards cc) c.filter.ensures.closure (λ x r q k. search (rules, tests)))
+    ∙ kept_count test cards

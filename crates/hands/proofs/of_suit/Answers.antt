@@ -1,15 +1,15 @@
-use mathlib.Core.Path.{sym, ◌∙◌}
-use borrow.Author.Tests.{eq-eqb, ne_eqb}
-use Rattle.counting.proofs.Lists.{count_hit, count_miss, count-done}
+use Rattle.std.proofs.Common.{rules, tests, ◌∙◌, ℕ, eqb}
+use Rattle.std.proofs.lemmas.Iterator.{YieldsList-from_slice}
+use Rattle.std.proofs.lemmas.Iterator.Consumers.{count_from_yields_List, YieldsList-from_filter}
+use Rattle.counting.proofs.Library.{kept_count}
+use Rattle.cards.specs.Card.{suit}
 use Rattle.hands.specs.Hand.{of_suit}
 use Rattle.hands.proofs.of_suit.Goals as goal
-use Rattle.hands.proofs.of_suit.Goals.{then-suit_of-s, else-suit_of-s}
-
-pub loop-i-preserved : goal.loop-i-preserved
-loop-i-preserved c =
-    let p = c in
-    elim c.if-suit_of-s.branch [ then-suit_of-s w ↦ rw w.n-is (count_hit _ _ _ _ p.loop-i.invariant p.loop-i-test.true (eq-eqb _ _ (sym c.suit_of.ensures ∙ w.if-suit_of-s.true))) | else-suit_of-s w ↦ rw w.n-is (count_miss _ _ _ _ p.loop-i.invariant p.loop-i-test.true (ne_eqb _ _ (rw c.suit_of.ensures at w.if-suit_of-s.false))) ]
 
 pub returns : goal.returns
 unfolding of_suit
-returns c = count-done _ _ _ _ c.loop-i.invariant c.loop-i-test.false
+returns c =
+    let cards = c.args.cards.now in
+    let test = λ (x : ℕ). eqb (suit x) c.args.s in
+    count_from_yields_List c.filter.result c.count.result c.count.ensures.ran (YieldsList-from_filter _ test (YieldsList-from_slice cards cc) c.filter.ensures.closure (λ x r q k. search (rules, tests)))
+    ∙ kept_count test cards

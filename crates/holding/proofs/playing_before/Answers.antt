@@ -1,20 +1,15 @@
-use mathlib.Core.Path.{ap}
-use mathlib.Core.Bool.{not}
-use borrow.Author.Tests.{eq-eqb, ne_eqb}
-use Rattle.counting.proofs.Ranges.{tally-none, tally_hit, tally_miss, tally-done}
+use Rattle.std.proofs.Common.{rules, tests, refl, ◌∙◌, ℕ, not, eqb}
+use Rattle.std.proofs.lemmas.Iterator.{YieldsList-from_slice, YieldsList-from_take}
+use Rattle.std.proofs.lemmas.Iterator.Consumers.{count_from_yields_List, YieldsList-from_filter}
+use Rattle.counting.proofs.Library.{kept_places}
 use Rattle.holding.specs.Deal.{playing_before}
 use Rattle.holding.proofs.playing_before.Goals as goal
-use Rattle.holding.proofs.playing_before.Goals.{then-at7-ne0, else-at7-ne0}
-
-pub loop-i-init : goal.loop-i-init
-loop-i-init c = tally-none _ _
-
-pub loop-i-preserved : goal.loop-i-preserved
-loop-i-preserved c =
-    let p = c in
-    let e = c.at7.ensures in
-    elim c.if-at7-ne0.branch [ then-at7-ne0 w ↦ rw w.playing-is (tally_hit _ _ _ _ p.loop-i.invariant p.loop-i-test.true (ap not (ne_eqb _ _ (rw e at w.if-at7-ne0.true)))) | else-at7-ne0 w ↦ rw w.playing-is (tally_miss _ _ _ _ p.loop-i.invariant p.loop-i-test.true (ap not (eq-eqb _ _ (rw e at w.if-at7-ne0.false)))) ]
 
 pub returns : goal.returns
 unfolding playing_before
-returns c = tally-done _ _ _ _ c.loop-i.invariant c.loop-i-test.false
+returns c =
+    let antes = c.args.antes in
+    let k = c.args.k in
+    let test = λ (a : ℕ). not (eqb a 0) in
+    count_from_yields_List c.filter.result _ c.count.ensures.ran (YieldsList-from_filter _ test (YieldsList-from_take k (YieldsList-from_slice antes cc) cc) c.filter.ensures.closure (λ x r q k. search (rules, tests)))
+    ∙ kept_places test antes k refl

@@ -1,4 +1,4 @@
-use mathlib.Core.List.{[], ◌∷◌}
+use Rattle.std.proofs.Common.{◌≡◌, length, arith, rules}
 use Rattle.hands.specs.Hand.{of_rank, of_suit}
 use Rattle.words.proofs.Cards.{few_cards}
 use Rattle.names.specs.Five.{name_five}
@@ -7,6 +7,6 @@ use Rattle.names.proofs.five_by_word.Goals as goal
 pub returns : goal.returns
 unfolding name_five
 returns c =
-    let v = c.args in
-    let cs = v.a ∷ v.b ∷ v.c ∷ v.d ∷ v.e ∷ [] in
-    c.five_of_word.ensures (of_rank cs) (of_suit cs) (c.word5.ensures, few_cards cs) c.is_suited5.ensures
+    let cs = c.args.cards in
+    let five : length cs ≡ 5 = search rules in
+    c.five_of_word.ensures (of_rank cs) (of_suit cs) (c.word_in.ensures.few (omega arith), omega (arith, few_cards cs)) (rw five at c.is_suited.ensures)

@@ -1,5 +1,5 @@
-use mathlib.Core.List.{[], ◌∷◌}
-use Rattle.hands.specs.Hand.{of_rank}
+use Rattle.std.proofs.Common.{◌≡◌, length, arith, rules}
+use Rattle.hands.specs.Hand.{of_rank, of_suit, flush}
 use Rattle.words.proofs.Cards.{few_cards}
 use Rattle.names.specs.Lo.{is_lo}
 use Rattle.names.proofs.is_lo_by_word.Goals as goal
@@ -7,7 +7,7 @@ use Rattle.names.proofs.is_lo_by_word.Goals as goal
 pub returns : goal.returns
 unfolding is_lo
 returns c =
-    let v = c.args in
-    let cs = v.a ∷ v.b ∷ v.c ∷ v.d ∷ v.e ∷ [] in
-    let word = c.word5 in
-    simp (c.is_suited5.ensures, c.are_five.ensures, c.is_straight5-row.ensures (of_rank cs) (word.ensures, few_cards cs))
+    let cs = c.args.cards in
+    let five : length cs ≡ 5 = search rules in
+    let suited : c.is_suited.result ≡ flush 5 (of_suit cs) = rw five at c.is_suited.ensures in
+    simp (suited, c.are_five.ensures, c.is_straight5-row.ensures (of_rank cs) (c.word_in.ensures.few (omega arith), omega (arith, few_cards cs)))

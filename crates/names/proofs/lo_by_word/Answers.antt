@@ -1,4 +1,4 @@
-use mathlib.Core.List.{[], ◌∷◌}
+use Rattle.std.proofs.Common.{◌≡◌, length, rules, ◌∙◌}
 use Rattle.hands.specs.Hand.{of_rank, of_suit}
 use Rattle.words.proofs.Cards.{five-highest}
 use Rattle.names.specs.Lo.{name_lo}
@@ -8,8 +8,6 @@ use Rattle.names.proofs.lo_by_word.Goals as goal
 pub returns : goal.returns
 unfolding name_lo
 returns c =
-    let v = c.args in
-    let cs = v.a ∷ v.b ∷ v.c ∷ v.d ∷ v.e ∷ [] in
-    let top = c.top_rank in
-    simp (c.lo_named.ensures, c.is_lo_by_word.ensures)
-    (named_low (of_rank cs) (of_suit cs) top.result (λ five. five-highest v.a v.b v.c v.d v.e five top.result top.ensures))
+    let cs = c.args.cards in
+    let long : length cs ≡ 5 = search rules in
+    simp (c.lo_named.ensures, c.is_lo_by_word.ensures) (named_low (of_rank cs) (of_suit cs) c.top_rank.result (λ five. c.top_rank.ensures ∙ five-highest cs long five))

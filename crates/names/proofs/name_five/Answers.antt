@@ -1,29 +1,14 @@
-use native.Mathlib.Omega.{arith}
 use Rattle.counting.specs.Count.{gather}
-use Rattle.hands.proofs.Refusals.{within}
-use Rattle.names.specs.Five.{name_five, answer_five}
-use Rattle.names.proofs.Answers.{is_refused, is_named_by, five_promised}
+use Rattle.names.specs.Five.{name_five, answer_five, five_place}
+use Rattle.names.proofs.Answers.{refused, named}
 use Rattle.names.proofs.name_five.Goals as goal
 
-pub returns-then-refusal-ne0 : goal.returns-then-refusal-ne0
+pub returns-in_err-hand_refusal : goal.returns-in_err-hand_refusal
 unfolding answer_five
-returns-then-refusal-ne0 c = five_promised _ _ (is_refused _ _ _ _ _ c.hand_refusal-refusal.ensures c.if-refusal-ne0.true)
-
-pub bounds-cards-0 : goal.bounds-cards-0
-bounds-cards-0 c = within 5 0 _ _ c.hand_refusal-refusal.ensures c.if-refusal-ne0.false (omega arith)
-
-pub bounds-cards-1 : goal.bounds-cards-1
-bounds-cards-1 c = within 5 1 _ _ c.hand_refusal-refusal.ensures c.if-refusal-ne0.false (omega arith)
-
-pub bounds-cards-2 : goal.bounds-cards-2
-bounds-cards-2 c = within 5 2 _ _ c.hand_refusal-refusal.ensures c.if-refusal-ne0.false (omega arith)
-
-pub bounds-cards-3 : goal.bounds-cards-3
-bounds-cards-3 c = within 5 3 _ _ c.hand_refusal-refusal.ensures c.if-refusal-ne0.false (omega arith)
-
-pub bounds-cards-4 : goal.bounds-cards-4
-bounds-cards-4 c = within 5 4 _ _ c.hand_refusal-refusal.ensures c.if-refusal-ne0.false (omega arith)
+returns-in_err-hand_refusal c = refused five_place _ _ _ _ c.from_residual.ensures.1 c.in_err-hand_refusal.ensures.number
 
 pub returns : goal.returns
 unfolding answer_five gather
-returns c = five_promised _ _ (is_named_by _ _ name_five 5 _ _ c.hand_refusal-refusal.ensures c.if-refusal-ne0.false _ c.five_by_word.ensures)
+returns c =
+    let ok = c.in_ok-hand_refusal.ensures in
+    named five_place name_five 5 _ ok.number ok.long _ c.five_by_word.ensures

@@ -12,31 +12,26 @@ use Rattle.pool.proofs.give.Goals as goal
 pub loop-k-init : goal.loop-k-init
 loop-k-init c =
     let a = c.args in
-    (omega arith, refl, each_none _ _ a.shares.now refl, λ j h. refl)
+    (refl, each_none _ _ a.shares.now refl, λ j h. refl)
 
-pub overflow_add-shares : goal.overflow_add-shares
-overflow_add-shares c =
-    let l = c in
-    let s = l in
-    let old = l.loop-k.invariant.3 l.loop-k.k (omega arith) in
-    omega (arith, total_at s.args.shares.now l.loop-k.k, c.dollar_to.ensures.1, s.requires)
+pub overflow_add-share : goal.overflow_add-share
+overflow_add-share c =
+    let old = c.loop-k.invariant.2 c.loop-k.k (omega arith) in
+    omega (arith, total_at c.args.shares.now c.loop-k.k, c.dollar_to.ensures.1, c.requires)
 
 pub loop-k-preserved : goal.loop-k-preserved
 loop-k-preserved c =
-    let l = c in
-    let a = l.args in
-    let k = l.loop-k.k in
-    let here : k < length a.shares.now = omega (arith, c.loop-k-test.true, l.loop-k.invariant.1) in
-    let old = l.loop-k.invariant.3 k (omega arith) in (
-      omega arith,
-      simp length-set l.loop-k.invariant.1,
-      each_more _ _ _ _ _ l.loop-k.invariant.2 here (omega (arith, old, c.dollar_to.ensures.0)),
-      λ j h. get_or-set_other l.loop-k.shares k j _ 0 (λ z. omega arith) ∙ l.loop-k.invariant.3 j (omega arith),
+    let a = c.args in
+    let k = c.loop-k.k in
+    let here : k < length a.shares.now = omega (arith, c.loop-k-test.true, c.loop-k.invariant.0) in
+    let old = c.loop-k.invariant.2 k (omega arith) in (
+      simp length-set c.loop-k.invariant.0,
+      each_more _ _ _ _ _ c.loop-k.invariant.1 here (omega (arith, old, c.dollar_to.ensures.0)),
+      λ j h. get_or-set_other c.loop-k.shares k j _ 0 (λ z. omega arith) ∙ c.loop-k.invariant.2 j (omega arith),
     )
 
 pub returns : goal.returns
 unfolding given
 returns c =
-    let l = c in
-    let all : length l.args.shares.now ≤ l.loop-k.k = omega (arith, c.loop-k-test.false, l.loop-k.invariant.1) in
-    each_all _ _ _ _ l.loop-k.invariant.2 all
+    let all : length c.args.shares.now ≤ c.loop-k.k = omega (arith, c.loop-k-test.false, c.loop-k.invariant.0) in
+    each_all _ _ _ _ c.loop-k.invariant.1 all

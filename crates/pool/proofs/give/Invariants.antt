@@ -1,5 +1,5 @@
 -- The shares before place k have what falls to them, and those from there on are as they were.
-use Prim.Native.Nat.{ℕ, ◌+◌, ◌-◌, ◌≤◌}
+use Prim.Native.Nat.{ℕ, ◌+◌, ◌≤◌}
 use mathlib.Core.Path.{◌≡◌}
 use mathlib.Core.List.{List}
 use lib.ListN.{length, get_or}
@@ -14,10 +14,6 @@ with-dollar left stand shares k = get_or shares k 0 + one (gets_dollar left stan
 
 abbrev pub invariant-loop-k : goal.invariant-loop-k
 invariant-loop-k l =
-    (l.k ≤ length l.initial.shares)
-    × (length l.shares ≡ length l.initial.shares)
+    (length l.shares ≡ length l.initial.shares)
     × Filled (each (length l.initial.shares) (with-dollar l.left l.stand l.initial.shares)) l.shares l.k
     × ((j : ℕ) → l.k ≤ j → get_or l.shares j 0 ≡ get_or l.initial.shares j 0)
-
-abbrev pub decreases-loop-k : goal.decreases-loop-k
-decreases-loop-k l = length l.initial.shares - l.k

@@ -1,5 +1,4 @@
 -- The shares stored, then those of what is left, are the shares of all; and so are the standings.
-use Prim.Native.Nat.{◌-◌, ◌≤◌}
 use mathlib.Core.Path.{◌≡◌}
 use mathlib.Core.List.{map}
 use lib.ListN.{length}
@@ -10,10 +9,6 @@ use Rattle.pool.proofs.round_down.Given as goal
 
 abbrev pub invariant-loop-i : goal.invariant-loop-i
 invariant-loop-i l =
-    (l.i ≤ length l.wins)
-    × (length l.shares ≡ length l.wins)
+    (length l.shares ≡ length l.wins)
     × Filled (map (rounded_down l.maximum l.pool) l.wins) l.shares l.i
     × (l.stand ≡ standings l.maximum l.pool l.wins l.i)
-
-abbrev pub decreases-loop-i : goal.decreases-loop-i
-decreases-loop-i l = length l.wins - l.i

@@ -1,17 +1,12 @@
--- The total is what was added and the total of what is left.
-use native.Mathlib.Omega.{arith}
-use Rattle.counting.proofs.Lists.{total_step, total_end}
+use Rattle.std.proofs.Common.{◌∙◌, sym, rules}
+use Rattle.std.proofs.lemmas.Iterator.{YieldsList-from_slice}
+use Rattle.std.proofs.lemmas.Iterator.Consumers.{sum_from_yields_List, fits_from_yields_list}
+use Rattle.counting.proofs.Library.{total-sum}
 use Rattle.pool.proofs.total_of.Goals as goal
 
-pub overflow_add-sum : goal.overflow_add-sum
-overflow_add-sum c =
-    let l = c in
-    omega (arith, total_step l.args.wins.now l.loop-i.i c.loop-i-test.true)
-
-pub loop-i-preserved : goal.loop-i-preserved
-loop-i-preserved c =
-    let l = c in
-    omega (arith, total_step l.args.wins.now l.loop-i.i c.loop-i-test.true)
+pub sum-requires-clause-fits : goal.sum-requires-clause-fits
+sum-requires-clause-fits c =
+    fits_from_yields_list c.iter.result _ (YieldsList-from_slice c.args.wins.now cc) (rw (← total-sum) (search rules))
 
 pub returns : goal.returns
-returns c = omega (arith, total_end c.args.wins.now c.loop-i.i c.loop-i-test.false)
+returns c = sum_from_yields_List c.iter.result _ c.sum.ensures.ran (YieldsList-from_slice c.args.wins.now cc) ∙ sym (total-sum c.args.wins.now)

@@ -1,34 +1,21 @@
--- `reading::read_records` meets its contract: reading the file is reading what is left of it, from the round held.
-use mathlib.Core.Path.{sym, ◌∙◌}
-use native.Mathlib.Omega.{arith}
-use borrow.Author.Rules.{rules}
-use lib.ListN.{length-take, length-drop}
-use Rattle.reading.proofs.Records.{rest_of}
-use Rattle.reading.proofs.Readings.{file_on, file_stops, file_ends}
+use Rattle.std.proofs.Common.{sym}
+use Rattle.reading.proofs.Readings.{going_first, going_ends, going_stops, going_on}
 use Rattle.reading.proofs.read_records.Goals as goal
 
-pub loop-rest-init : goal.loop-rest-init
-loop-rest-init c = (search rules, simp c.fresh-round.ensures)
+pub loop-place-init : goal.loop-place-init
+loop-place-init c = going_first _ _ c.into_iter-place-iterator.result c.fresh-round.ensures (cc) (cc) (cc)
 
-pub slice_bounds-refusal-end : goal.slice_bounds-refusal-end
-slice_bounds-refusal-end c = simp length-take (omega arith)
+pub returns-in-Err : goal.returns-in-Err
+returns-in-Err c =
+    let i = c.loop-place in
+    rw c.number.ensures
+    (sym (going_stops _ _ i.place-iterator c.next.new.self i.invariant _ c.in-Some.record c.in-Some.ensures.steps c.in-Err.refusal c.in-Err.ensures))
 
-pub returns-then-number-ne0 : goal.returns-then-number-ne0
-returns-then-number-ne0 c =
-    let t = c in
-    sym (t.loop-rest.invariant.1 ∙ file_stops _ _ _ _ t.loop-rest-test.true c.refusal-number.ensures c.if-number-ne0.true)
-
-pub slice_bounds-next-end : goal.slice_bounds-next-end
-slice_bounds-next-end c = simp length-take (omega arith)
-
-pub loop-rest-preserved : goal.loop-rest-preserved
-loop-rest-preserved c =
-    let i = c in
-    let t = i in (
-      simp (rest_of, length-drop) (omega arith),
-      simp (rest_of, c.next-round.ensures)
-          (t.loop-rest.invariant.1 ∙ file_on _ _ _ _ t.loop-rest-test.true i.refusal-number.ensures i.if-number-ne0.false),
-    )
+pub loop-place-preserved : goal.loop-place-preserved
+loop-place-preserved c =
+    let i = c.loop-place in
+    rw c.next-round.ensures
+    (going_on _ _ i.place-iterator c.next.new.self i.invariant _ c.in-Some.record c.in-Some.ensures.steps (sym c.in_default.ensures))
 
 pub returns : goal.returns
-returns c = sym (c.loop-rest.invariant.1 ∙ file_ends _ _ _ c.loop-rest-test.false)
+returns c = sym (going_ends _ _ c.loop-place.place-iterator c.next.new.self c.loop-place.invariant c.in-None.ensures.steps)

@@ -1,24 +1,14 @@
-use mathlib.Core.Path.{sym}
-use borrow.Author.Tests.{eq-eqb, ne_eqb}
-use Rattle.counting.proofs.Ranges.{some_none, some_more, some_done, some_here}
-use Rattle.records.specs.Seats.{plays, any_plays}
-use borrow.Author.Rules.{rules}
+use Rattle.std.proofs.Common.{rules, tests, not, eqb, length, ◌≡◌}
+use Rattle.std.proofs.lemmas.Iterator.{YieldsList-from_slice}
+use Rattle.std.proofs.lemmas.Iterator.Search.{any_from_yields_List}
+use Rattle.counting.proofs.Library.{some_at}
+use Rattle.records.specs.Seats.{any_plays}
 use Rattle.records.proofs.any_plays.Goals as goal
-
-pub loop-k-init : goal.loop-k-init
-loop-k-init c = (search rules, some_none _)
-
-pub returns-then-antes-k-ne0 : goal.returns-then-antes-k-ne0
-unfolding any_plays
-returns-then-antes-k-ne0 c =
-    let p = c in
-    sym (some_here (plays p.args.antes) 7 _ p.loop-k-test.true (simp (ne_eqb _ 0 c.if-antes-k-ne0.true)))
-
-pub loop-k-preserved : goal.loop-k-preserved
-loop-k-preserved c =
-    let p = c in
-    (search rules, some_more (plays p.args.antes) _ p.loop-k.invariant.1 (simp (eq-eqb _ 0 c.if-antes-k-ne0.false)))
 
 pub returns : goal.returns
 unfolding any_plays
-returns c = sym (some_done (plays c.args.antes) 7 _ c.loop-k.invariant.1 c.loop-k.invariant.0 c.loop-k-test.false)
+returns c =
+    let seven : length c.args.antes ≡ 7 = search rules in
+    rw (some_at (λ a. not (eqb a 0)) c.args.antes 7 seven) (
+    any_from_yields_List _ _ _ _ c.any.ensures.ran (YieldsList-from_slice c.args.antes cc) (λ x b q k. search (rules, tests))
+    )

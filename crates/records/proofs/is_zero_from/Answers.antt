@@ -1,24 +1,14 @@
-use mathlib.Core.Path.{refl, sym, ◌∙◌}
-use lib.Dec.{eqb}
-use borrow.Author.Tests.{eq-eqb, ne_eqb}
-use Rattle.counting.proofs.Lists.{every_of_step, every_of_end}
+use Rattle.std.proofs.Common.{rules, tests}
+use Rattle.std.proofs.lemmas.Iterator.{YieldsList-from_slice}
+use Rattle.std.proofs.lemmas.Iterator.Adapters.{YieldsList-from_skip}
+use Rattle.std.proofs.lemmas.Iterator.Search.{all_from_yields_List}
+use Rattle.counting.proofs.Library.{every_of-list_all}
 use Rattle.records.specs.Bytes.{zero_from}
 use Rattle.records.proofs.is_zero_from.Goals as goal
 
-pub loop-i-init : goal.loop-i-init
-loop-i-init c = refl
-
-pub returns-then-bytes-i-ne0 : goal.returns-then-bytes-i-ne0
-unfolding zero_from
-returns-then-bytes-i-ne0 c =
-    let p = c in
-    sym (p.loop-i.invariant ∙ every_of_step (λ x. eqb x 0) _ _ p.loop-i-test.true ∙ simp (ne_eqb _ 0 c.if-bytes-i-ne0.true))
-
-pub loop-i-preserved : goal.loop-i-preserved
-loop-i-preserved c =
-    let p = c in
-    p.loop-i.invariant ∙ every_of_step (λ x. eqb x 0) _ _ p.loop-i-test.true ∙ simp (eq-eqb _ 0 c.if-bytes-i-ne0.false)
-
 pub returns : goal.returns
 unfolding zero_from
-returns c = sym (c.loop-i.invariant ∙ every_of_end (λ x. eqb x 0) _ _ c.loop-i-test.false)
+returns c =
+    rw every_of-list_all (
+    all_from_yields_List _ _ _ _ c.all.ensures.ran (YieldsList-from_skip c.args.from (YieldsList-from_slice c.args.bytes.now cc) cc) (λ x b q k. search (rules, tests))
+    )

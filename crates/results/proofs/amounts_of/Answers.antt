@@ -3,4 +3,4 @@ use Rattle.results.proofs.amounts_of.Goals as goal
 
 pub returns : goal.returns
 unfolding board_amount
-returns c = simp (c.six_amount-six.ensures, c.lo_amount-lo.ensures, c.pocket_amount-pocket.ensures, c.handed_back-board.ensures, c.at7.ensures, c.base_amount-base.ensures, c.requires.1)
+returns c = simp (c.six_amount.ensures, c.lo_amount.ensures, c.pocket_amount.ensures, c.handed_back.ensures, c.at-wager.ensures, c.base_amount.ensures, c.requires.1)

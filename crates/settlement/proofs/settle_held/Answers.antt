@@ -1,6 +1,6 @@
 use mathlib.Core.Path.{ap, sym, ◌∙◌}
+use Rattle.std.specs.Prelude.{Ok}
 use Rattle.results.specs.declared.Results.{Results}
-use Rattle.settlement.specs.declared.Settlement.TheVariants.{Paid}
 use Rattle.settlement.proofs.Answers.{unfinished, all_paid}
 use Rattle.settlement.proofs.settle_held.Goals as goal
 
@@ -13,9 +13,9 @@ pub returns : goal.returns
 returns c =
     let p = c.requires in
     let s = c.results_of-settled.ensures in
-    let list = c.copy.ensures ∙ ap (λ (s : Results). s.amounts) s in
+    let list = c.copy_from_slice.ensures.after ∙ ap (λ (s : Results). s.amounts) s in
     let finished = sym c.is_finished.ensures ∙ c.if-not-is_finished.false in
     let all = all_paid _ _ p.0 p.1 finished _ list in record {
-      answer = ap (λ (s : Results). Paid s.full s.paid) s ∙ all.answer;
+      answer = ap (λ (s : Results). Ok (record { full = s.full; paid = s.paid })) s ∙ all.answer;
       list = all.list;
     }

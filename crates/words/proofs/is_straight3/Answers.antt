@@ -6,4 +6,4 @@ use Rattle.words.proofs.Lines.{straight_begins}
 use Rattle.words.proofs.is_straight3.Goals as goal
 
 pub returns : goal.returns
-returns c = λ h has. ap (λ (x : ℕ). not (eqb x 0)) (c.runs3.ensures h has) ∙ straight_begins 3 h
+returns c = λ h has. ap (λ (x : ℕ). not (eqb x 0)) (c.runs.ensures h has) ∙ straight_begins 3 h

@@ -1,19 +1,15 @@
-use mathlib.Core.Path.{sym, ◌∙◌}
-use Rattle.counting.proofs.Ranges.{tally-none, tally_hit, tally_miss, tally-done}
-use borrow.Author.Rules.{rules}
+use Rattle.std.proofs.Common.{rules, tests, ◌∙◌, refl, arith}
+use Rattle.std.proofs.lemmas.Iterator.{YieldsList-from_range}
+use Rattle.std.proofs.lemmas.Iterator.Consumers.{count_from_yields_List, YieldsList-from_filter}
+use Rattle.counting.proofs.Library.{kept_tally}
+use Rattle.counting.proofs.Ranges.{tally_le}
+use Rattle.choosing.specs.Streets.{has_chosen}
 use Rattle.writing.proofs.choices_on.Goals as goal
-use Rattle.writing.proofs.choices_on.Goals.{then-has_chosen, else-has_chosen}
-
-pub loop-k-init : goal.loop-k-init
-loop-k-init c = tally-none _ _
-
-pub loop-k-preserved : goal.loop-k-preserved
-loop-k-preserved c = let l = c.loop-k in
-    let e = sym c.has_chosen.ensures in
-    elim c.if-has_chosen.branch [ then-has_chosen w ↦ rw w.choices-is (tally_hit _ _ _ _ l.invariant c.loop-k-test.true (e ∙ w.if-has_chosen.true)) | else-has_chosen w ↦ rw w.choices-is (tally_miss _ _ _ _ l.invariant c.loop-k-test.true (e ∙ w.if-has_chosen.false)) ]
 
 pub returns : goal.returns
-returns c = record {
-  choices = tally-done _ _ _ _ c.loop-k.invariant c.loop-k-test.false;
-  most = search rules;
-}
+returns c =
+    let test = has_chosen c.args.play c.args.s in
+    let chosen =
+    count_from_yields_List c.filter.result _ c.count.ensures.ran (YieldsList-from_filter _ test (YieldsList-from_range 0 7 7 (cc) refl) c.filter.ensures.closure (λ x b q k. search (rules, tests)))
+    ∙ kept_tally test 7 in
+    record { choices = chosen; most = omega (arith, chosen, tally_le 7 test) }

@@ -1,21 +1,21 @@
-use mathlib.Core.Path.{◌≡◌, refl, sym, ◌∙◌}
-use native.Mathlib.Omega.{arith}
-use lib.ListN.{length}
-use Rattle.counting.proofs.Stores.{sets_start, sets_more, sets_done}
-use borrow.Author.Rules.{rules}
+use Rattle.std.proofs.Common.{rules, arith, ◌≡◌, ◌≤◌, ◌+◌, ◌-◌, length, ap}
+use Rattle.writing.proofs.Stores.{stored_none, bytes_of, sets_part}
 use Rattle.writing.proofs.put.Goals as goal
 
-pub loop-i-init : goal.loop-i-init
-loop-i-init c = (search rules, refl, sets_start c.args.room.now c.args.bytes c.args.at)
+pub returns-in_default : goal.returns-in_default
+returns-in_default c = stored_none _ _ _ c.in_default.is
 
-pub loop-i-preserved : goal.loop-i-preserved
-loop-i-preserved c = let l = c.loop-i in
-    let b = c.args.bytes in
-    let long : length b ≡ 16 = search rules in
-    (search rules, search rules, sym (sets_more l.room b _ l.i (omega arith)) ∙ l.invariant.2)
+pub slice_bounds-copy_from_slice-end : goal.slice_bounds-copy_from_slice-end
+slice_bounds-copy_from_slice-end c =
+    let long : length c.in-Some.bytes ≡ 16 = search rules in
+    omega (arith, ap length (bytes_of _ _ c.in-Some.is), c.requires)
 
 pub returns : goal.returns
-returns c = let l = c.loop-i in
-    let b = c.args.bytes in
+returns c =
+    let a = c.args in
+    let b = c.in-Some.bytes in
     let long : length b ≡ 16 = search rules in
-    sym (sets_done l.room b _ l.i (omega arith)) ∙ l.invariant.2
+    let e = bytes_of _ _ c.in-Some.is in
+    let n : a.at + 16 - a.at ≡ length b = omega arith in
+    let room : a.at + (a.at + 16 - a.at) ≤ length a.room.now = omega (arith, ap length e, c.requires) in
+    rw e (record { list = sets_part a.room.now a.at (a.at + 16 - a.at) b c.copy_from_slice.new.self c.copy_from_slice.ensures.after n room; end = omega arith })

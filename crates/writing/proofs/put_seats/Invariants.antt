@@ -1,4 +1,3 @@
-use Prim.Native.Nat.{◌-◌}
 use Rattle.seating.specs.Seat.{seat_record}
 use Rattle.records.specs.Seats.{plays}
 use Rattle.led.specs.Records.{only}
@@ -7,6 +6,3 @@ use Rattle.writing.proofs.put_seats.Given as goal
 
 abbrev pub invariant-loop-k : goal.invariant-loop-k
 invariant-loop-k l = Placed (λ i. only (plays l.round.wagers.antes i) (seat_record l.round.wagers i)) l.initial.room l.at 7 l.k l.room l.end
-
-abbrev pub decreases-loop-k : goal.decreases-loop-k
-decreases-loop-k l = 7 - l.k

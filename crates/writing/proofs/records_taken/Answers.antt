@@ -1,6 +1,7 @@
-use mathlib.Core.Path.{sym, ◌∙◌}
-use native.Mathlib.Omega.{arith}
+use Rattle.std.proofs.Common.{ap, arith}
+use Rattle.counting.specs.Choose.{one}
 use Rattle.counting.specs.Count.{sum_below}
+use Rattle.counting.proofs.Tests.{one_le}
 use Rattle.counting.proofs.Ranges.{tally_le}
 use Rattle.records.specs.Seats.{plays}
 use Rattle.holding.specs.Deal.{playing_before}
@@ -8,26 +9,12 @@ use Rattle.choosing.specs.Streets.{choices_taken}
 use Rattle.led.specs.Records.{records_taken}
 use Rattle.writing.proofs.records_taken.Goals as goal
 
-pub overflow_add-rest-2 : goal.overflow_add-rest-2
+pub returns-clause-taken : goal.returns-clause-taken
+unfolding records_taken choices_taken sum_below playing_before
+returns-clause-taken c =
+    omega (arith, c.playing_before-seats.ensures, c.choices_on.ensures.choices, c.choices_on-2.ensures.choices, c.choices_on-3.ensures.choices, ap one c.is_read.ensures)
+
+pub returns-clause-most : goal.returns-clause-most
 unfolding playing_before
-overflow_add-rest-2 c = omega (arith, c.playing_before.ensures, tally_le 7 (plays c.args.round.wagers.antes))
-
-pub returns-then-not-is_read : goal.returns-then-not-is_read
-unfolding records_taken choices_taken sum_below playing_before
-returns-then-not-is_read c = let none = sym c.is_read.ensures ∙ c.if-not-is_read.true in
-    let n = c.playing_before.ensures in
-    let few = tally_le 7 (plays c.args.round.wagers.antes) in
-    let one = c.choices_on-3.ensures in
-    let two = c.choices_on-2.ensures in
-    let three = c.choices_on.ensures in
-    rw none (record { taken = omega (arith, one.choices, two.choices, three.choices); most = omega (arith, one.most, two.most, three.most) })
-
-pub returns : goal.returns
-unfolding records_taken choices_taken sum_below playing_before
-returns c = let read = sym c.is_read.ensures ∙ c.if-not-is_read.false in
-    let n = c.playing_before.ensures in
-    let few = tally_le 7 (plays c.args.round.wagers.antes) in
-    let one = c.choices_on-3.ensures in
-    let two = c.choices_on-2.ensures in
-    let three = c.choices_on.ensures in
-    rw read (record { taken = omega (arith, one.choices, two.choices, three.choices); most = omega (arith, one.most, two.most, three.most) })
+returns-clause-most c =
+    omega (arith, one_le c.is_read.result, c.playing_before-seats.ensures, tally_le 7 (plays c.args.round.wagers.antes), c.choices_on.ensures.most, c.choices_on-2.ensures.most, c.choices_on-3.ensures.most)
