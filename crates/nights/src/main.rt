@@ -111,8 +111,8 @@ fn settle(
     write_refused(rt, count, number, place, is_kept(lent) & is_kept(said))
 }
 
-// Answers the next shift, where there is one.
-fn answer_next(rt: &(impl Input + Print + Eprint)) -> Result<bool, Fault> {
+// Answers the next shift, where there is one. It is read into a room that is lent, which is not cleared for each.
+fn answer_next(rt: &(impl Input + Print + Eprint), room: &mut [u8; 65536]) -> Result<bool, Fault> {
     let mut head = [0u8; 6];
     if !read_next(
         rt,
@@ -128,7 +128,6 @@ fn answer_next(rt: &(impl Input + Print + Eprint)) -> Result<bool, Fault> {
         tell(rt, &NAME, b"lends at most 4096 amounts and 256 answers");
         return Err(Fault);
     }
-    let mut room = [0u8; 65536];
     let file: &mut [u8] = &mut room[..word_at(&head, 4) as usize];
     read_whole(rt, &NAME, file, b"the stream ends inside a shift")?;
     settle(rt, file, amounts, answers)?;
@@ -136,7 +135,8 @@ fn answer_next(rt: &(impl Input + Print + Eprint)) -> Result<bool, Fault> {
 }
 
 fn run(rt: &(impl Input + Print + Eprint)) -> Result<Outcome, Fault> {
-    take_turns(|| answer_next(rt))
+    let mut room = [0u8; 65536];
+    take_turns(|| answer_next(rt, &mut room))
 }
 
 fn main(rt: HostRuntime) {

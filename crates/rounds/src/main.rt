@@ -115,13 +115,12 @@ fn write_answer(rt: &(impl Print + Eprint), file: &[u8]) -> Result<(), Fault> {
     print(rt, &NAME, page.text())
 }
 
-// Answers the next file, where there is one.
-fn answer_next(rt: &(impl Input + Print + Eprint)) -> Result<bool, Fault> {
+// Answers the next file, where there is one. It is read into a room that is lent, which is not cleared for each.
+fn answer_next(rt: &(impl Input + Print + Eprint), room: &mut [u8; 65536]) -> Result<bool, Fault> {
     let mut length = [0u8; 2];
     if !read_next(rt, &NAME, &mut length, b"the stream ends inside a length")? {
         return Ok(false);
     }
-    let mut room = [0u8; 65536];
     let file: &mut [u8] = &mut room[..word_at(&length, 0) as usize];
     read_whole(rt, &NAME, file, b"the stream ends inside a file")?;
     write_answer(rt, file)?;
@@ -129,7 +128,8 @@ fn answer_next(rt: &(impl Input + Print + Eprint)) -> Result<bool, Fault> {
 }
 
 fn run(rt: &(impl Input + Print + Eprint)) -> Result<Outcome, Fault> {
-    take_turns(|| answer_next(rt))
+    let mut room = [0u8; 65536];
+    take_turns(|| answer_next(rt, &mut room))
 }
 
 fn main(rt: HostRuntime) {
