@@ -12,6 +12,8 @@ ghost use Rattle.counting.specs.Count.{every_of};
 ghost use Rattle.cards.specs.Card.{is_card, rank, suit};
 ghost use Rattle.cards.specs.Deck.{repeats_from, faulty, faulty_from, whole_deck};
 
+use counting::rest_from;
+
 pub fn rank_of(card: u8) -> u8
     ensures { result ≡ rank card }
 {
@@ -28,7 +30,7 @@ pub fn suit_of(card: u8) -> u8
 pub fn are_cards_from(cards: &[u8], from: usize) -> bool
     ensures { result ≡ every_of is_card (drop from cards.now) }
 {
-    cards.iter().skip(from).all(|card| *card <= 51)
+    rest_from(cards, from).iter().all(|card| *card <= 51)
 }
 
 // A card from place `from` on stands at an earlier place too. The search stops at once, from inside, at the first one found.

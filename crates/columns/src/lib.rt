@@ -8,6 +8,7 @@
 ghost use Rattle.std.specs.Prelude.{ℕ, ◌<◌, ◌≡◌, get_or};
 ghost use Rattle.columns.specs.Columns.{digit_at, number_at, line_end};
 
+use counting::rest_from;
 use records::{byte_at, is_between};
 
 pub fn digit_at(line: &[u8], place: usize) -> u8
@@ -47,6 +48,6 @@ pub fn numbers_of(line: &[u8]) -> [u8; 21]
 pub fn line_end(text: &[u8], from: usize) -> usize
     ensures { result ≡ line_end text.now from }
 {
-    let rest = text.iter().skip(from);
+    let rest = rest_from(text, from).iter();
     from + rest.take_while(|character| **character != b'\n').count()
 }

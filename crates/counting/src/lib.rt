@@ -3,11 +3,11 @@
 // specs/ has the definitions: choosing by a test, tests and sums over the numbers below n and over a list, and lists
 // that hold the same numbers in another order. proofs/ has their laws, once; the crates above cite the laws and not
 // the definitions' texts. `at` and `put` read and write at any place: past the end a read gives what the
-// caller names and a write changes nothing, so that no caller owes a bound. above_of counts what is larger.
+// caller names, a write changes nothing and `rest_from` leaves nothing, so that no caller owes a bound. above_of counts what is larger.
 
 #![tactic(auto)]
 
-ghost use Rattle.std.specs.Prelude.{◌≡◌, ◌≤◌, get_or, set};
+ghost use Rattle.std.specs.Prelude.{◌≡◌, ◌≤◌, get_or, set, drop};
 ghost use Rattle.counting.specs.Choose.{one};
 ghost use Rattle.counting.specs.Count.{above};
 
@@ -34,6 +34,13 @@ pub fn at<T: Copy>(list: &[T], i: usize, otherwise: T) -> T
     ensures { result ≡ get_or list.now i otherwise }
 {
     list.get(i).copied().unwrap_or(otherwise)
+}
+
+// A list from a place on, which costs the same wherever the place is; nothing where the list has no such place.
+pub fn rest_from<T: Copy>(list: &[T], from: usize) -> &[T]
+    ensures { result.now ≡ drop from list.now }
+{
+    &list[from.min(list.len())..]
 }
 
 // The array with `x` at a place, and the same array where it has no such place.

@@ -9,7 +9,7 @@ ghost use Rattle.std.specs.Prelude.{◌≡◌};
 ghost use Rattle.records.specs.Bytes.{byte, word, zero_from, between};
 ghost use Rattle.records.specs.Seats.{place, any_plays};
 
-use counting::at;
+use counting::{at, rest_from};
 
 pub fn byte_at(bytes: &[u8], n: usize) -> u8
     ensures { result ≡ byte bytes.now n }
@@ -30,7 +30,7 @@ pub fn word_at(bytes: &[u8], n: u8) -> u16
 pub fn is_zero_from(bytes: &[u8], from: usize) -> bool
     ensures { result ≡ zero_from from bytes.now }
 {
-    bytes.iter().skip(from).all(|byte| *byte == 0)
+    rest_from(bytes, from).iter().all(|byte| *byte == 0)
 }
 
 pub fn is_between(low: u8, high: u8, n: u8) -> bool
