@@ -17,8 +17,11 @@
 
 #![tactic(auto)]
 
+use columns::{digit_at, line_end};
+use counting::rest_from;
 use demands::sure_of;
 use pipes::{Fault, Outcome, called, end, read_all, tell_unwritten, write_out};
+use records::is_between;
 use seating::Table;
 use std::io;
 use text::Page;
@@ -50,12 +53,12 @@ fn number_from(line: &[u8]) -> Number<'_> {
     let text = skip_blanks(line);
     let digits = text
         .iter()
-        .take_while(|character| matches!(**character, b'0'..=b'9'))
+        .take_while(|character| is_between(b'0', b'9', **character))
         .count();
     let (number, rest) = text.split_at(digits.min(text.len()));
-    let value = number.iter().fold(
+    let value = (0..number.len()).fold(
         0,
-        |value, digit| with_digit(value, digit.saturating_sub(b'0')),
+        |value, place| with_digit(value, digit_at(number, place)),
     );
     Number { value, rest }
 }
@@ -129,8 +132,11 @@ fn tell_line(rt: &impl Print, line: &[u8]) -> io::Result<()> {
 }
 
 fn tell_lines(rt: &impl Print, text: &[u8]) -> io::Result<()> {
-    for line in text.split(|character| *character == b'\n') {
-        tell_line(rt, line)?;
+    let mut rest = text;
+    while !rest.is_empty() {
+        let end = line_end(rest, 0);
+        tell_line(rt, &rest[..end])?;
+        rest = rest_from(rest, end.saturating_add(1));
     }
     Ok(())
 }
