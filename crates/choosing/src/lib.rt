@@ -14,7 +14,7 @@ ghost use Rattle.choosing.specs.Choice.{standing_refusal, choice_refusal, chosen
 ghost use Rattle.choosing.specs.Slots.{fold_fits, raise_fits, slot_at, street_fits, play_fits};
 
 use causes::Refusal;
-use counting::{at, put};
+use counting::at;
 use records::{byte_at, is_between, is_zero_from, place_of};
 
 #[derive(Clone, Copy)]
@@ -123,10 +123,14 @@ impl Play {
         requires { s < 4 }
         ensures { result ≡ chosen self s k choice }
     {
+        let place = k as usize;
+        let slot = s as usize * 7 + place;
         if choice == 0 {
-            self.folds = put(self.folds, k as usize, s + 1);
-        } else {
-            self.raises = put(self.raises, s as usize * 7 + k as usize, choice);
+            if place < 7 {
+                self.folds[place] = s + 1;
+            }
+        } else if slot < 21 {
+            self.raises[slot] = choice;
         }
         self
     }
