@@ -1,19 +1,20 @@
 -- The suits of some cards in one number, of which hexadecimal digit s is how often suit s occurs.
 -- Assumes nothing.
-use Prim.Native.Nat.{ℕ, ◌+◌, ◌*◌, ◌%◌, ◌^◌, ◌≤◌}
-use mathlib.Core.Path.{◌≡◌, refl, ◌∙◌}
-use mathlib.Core.Bool.{true, ◌||◌}
+use Prim.Native.Nat.{◌/◌, ℕ, ◌+◌, ◌*◌, ◌%◌, ◌^◌, ◌≤◌}
+use mathlib.Core.Path.{ap, ◌≡◌, refl, ◌∙◌}
+use mathlib.Core.Bool.{Bool, true, false, not, ◌||◌}
 use mathlib.Core.List.{List, [], ◌∷◌, ◌++◌}
 use native.Mathlib.Omega.{arith}
+use lib.Bits.{bit_and}
 use lib.Dec.{eqb}
 use lib.ListN.{length}
-use borrow.Author.Tests.{eqb-true, eq-eqb}
+use borrow.Author.Tests.{eqb-true}
 use Rattle.counting.specs.Choose.{one}
 use Rattle.counting.specs.Count.{count, every_below, some_below, sum_below}
 use Rattle.counting.proofs.Lists.{count_both, count_most}
 use Rattle.counting.proofs.Ranges.{every_at}
 use Rattle.counting.proofs.Sums.{heaps_within}
-use Rattle.counting.proofs.Tests.{same_true}
+use Rattle.counting.proofs.Tests.{same_true, one_true}
 use Rattle.cards.specs.Card.{suit}
 use Rattle.hands.specs.Hand.{of_suit, flush}
 use Rattle.words.specs.Word.{digits}
@@ -47,18 +48,26 @@ suits-most cs = omega (arith, digits_le 4 (of_suit cs) (λ s. length cs) (λ s. 
 
 -- ---- one suit
 
--- of at most five cards: some suit occurs five times where the number is the digit 5 at a suit's place
-module _ (w : ℕ) (t : ℕ → ℕ) (is : w ≡ digits 4 t) (few : sum_below 4 t ≤ 5) where
-  five_at : (s d : ℕ) → (w ≡ d → t s ≡ 5) → (t s ≡ 5 → w ≡ d) → eqb w d ≡ eqb (t s) 5
-  five_at s d there back = same_true (eqb w d) (eqb (t s) 5) (λ e. eq-eqb (t s) 5 (there (eqb-true w d e))) (λ e. eq-eqb w d (back (eqb-true (t s) 5 e)))
+-- of digits up to 5 one is 5 where one with the bit 4 has the bit 1: a test of all such numbers
+told : ℕ → ℕ → ℕ → ℕ → Bool
+told a b c d =
+    let w = ((d * 16 + c) * 16 + b) * 16 + a in
+    eqb (one (not (eqb (bit_and (bit_and w 0x4444 / 4) w) 0))) (one (eqb d 5 || (eqb c 5 || (eqb b 5 || (eqb a 5 || false)))))
 
-  pub one_digit : (((eqb w 0x5000 || eqb w 0x500) || eqb w 0x50) || eqb w 0x5) ≡ flush 5 t
-  unfolding flush some_below digits sum_below
-  one_digit =
-      simp (
-        five_at 0 0x5 (λ e. omega (arith, e, is, few)) (λ e. omega (arith, e, is, few)),
-        five_at 1 0x50 (λ e. omega (arith, e, is, few)) (λ e. omega (arith, e, is, few)),
-        five_at 2 0x500 (λ e. omega (arith, e, is, few)) (λ e. omega (arith, e, is, few)),
-        five_at 3 0x5000 (λ e. omega (arith, e, is, few)) (λ e. omega (arith, e, is, few)),
-      )
-      (grind (arith))
+all_told : every_below 6 (λ a. every_below 6 (λ b. every_below 6 (λ c. every_below 6 (λ d. told a b c d)))) ≡ true
+unfolding every_below told
+all_told = refl
+
+one_same : (a b : Bool) → one a ≡ one b → a ≡ b
+one_same a b e = same_true a b (λ p. one_true b (omega (arith, e, ap one p))) (λ p. one_true a (omega (arith, e, ap one p)))
+
+-- of at most five cards
+pub one_digit : (w : ℕ) (t : ℕ → ℕ) → w ≡ digits 4 t → sum_below 4 t ≤ 5 → not (eqb (bit_and (bit_and w 0x4444 / 4) w) 0) ≡ flush 5 t
+unfolding flush some_below digits sum_below told
+one_digit w t is few =
+    let p = every_at (λ a. every_below 6 (λ b. every_below 6 (λ c. every_below 6 (λ d. told a b c d)))) 6 all_told (t 0) (omega (arith, few)) in
+    let q = every_at (λ b. every_below 6 (λ c. every_below 6 (λ d. told (t 0) b c d))) 6 p (t 1) (omega (arith, few)) in
+    let r = every_at (λ c. every_below 6 (λ d. told (t 0) (t 1) c d)) 6 q (t 2) (omega (arith, few)) in
+    let s = every_at (λ d. told (t 0) (t 1) (t 2) d) 6 r (t 3) (omega (arith, few)) in
+    let e : w ≡ ((t 3 * 16 + t 2) * 16 + t 1) * 16 + t 0 = omega (arith, is) in
+    rw e (one_same _ _ (eqb-true _ _ s))

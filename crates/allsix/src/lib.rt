@@ -44,11 +44,11 @@ fn suit_word(card: u8) -> u16
     1u16 << (4 * cards::suit_of(card))
 }
 
-// Of the suits of five cards: one occurs five times, and so no other.
+// One of the suits of five cards occurs five times: of the digits 4 and 5, which have the highest bit, the odd one.
 fn is_one_suit(suits: u16) -> bool
     ensures { (t : ℕ → ℕ) → suits ≡ digits 4 t → sum_below 4 t ≤ 5 → result ≡ flush 5 t }
 {
-    (suits == 0x5000) | (suits == 0x500) | (suits == 0x50) | (suits == 0x5)
+    (suits & 0x4444) / 4 & suits != 0
 }
 
 // The best of the six names that leaving out one card gives. Ranks and suits are counted once, in the words of all six; a card's own are taken from them where that
