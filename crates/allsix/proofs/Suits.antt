@@ -1,7 +1,7 @@
 -- The suits of some cards in one number, of which hexadecimal digit s is how often suit s occurs.
 -- Assumes nothing.
-use Prim.Native.Nat.{◌/◌, ℕ, ◌+◌, ◌*◌, ◌%◌, ◌^◌, ◌≤◌}
-use mathlib.Core.Path.{ap, ◌≡◌, refl, ◌∙◌}
+use Prim.Native.Nat.{ℕ, ◌+◌, ◌*◌, ◌%◌, ◌/◌, ◌^◌, ◌≤◌}
+use mathlib.Core.Path.{◌≡◌, refl, ap, ◌∙◌}
 use mathlib.Core.Bool.{Bool, true, false, not, ◌||◌}
 use mathlib.Core.List.{List, [], ◌∷◌, ◌++◌}
 use native.Mathlib.Omega.{arith}
@@ -61,7 +61,7 @@ all_told = refl
 one_same : (a b : Bool) → one a ≡ one b → a ≡ b
 one_same a b e = same_true a b (λ p. one_true b (omega (arith, e, ap one p))) (λ p. one_true a (omega (arith, e, ap one p)))
 
--- of at most five cards
+-- of at most five cards: all are of one suit
 pub one_digit : (w : ℕ) (t : ℕ → ℕ) → w ≡ digits 4 t → sum_below 4 t ≤ 5 → not (eqb (bit_and (bit_and w 0x4444 / 4) w) 0) ≡ flush 5 t
 unfolding flush some_below digits sum_below told
 one_digit w t is few =
