@@ -1,3 +1,4 @@
+pub mod Suits
 pub mod Choices
 pub mod Best
 pub mod Orders

@@ -5,14 +5,14 @@
 // ranks and suits occur.
 //
 // five_by_word, board_by_word, pocket_by_word and lo_by_word name five, three or two cards, any bytes, for callers that know them to be
-// sound. They count the ranks in one word (crate words): no hand is sorted or looked up in a table. five_of_word is for a caller that has the word already. five_of, board_of, pocket_of and lo_of name a list of any length,
+// sound. They count the ranks in one word (crate words): no hand is copied, sorted or looked up in a table, and the entries count so in the list that they are lent. five_of_word is for a caller that has the word already. five_of, board_of, pocket_of and lo_of name a list of any length,
 // longer than a word can count, and count in it rank by rank. All answer what the definition says.
 //
 // proofs/Orders.antt has the law that the order of the cards plays no part.
 
 #![tactic(auto)]
 
-ghost use Rattle.std.specs.Prelude.{◌≡◌, [], ◌∷◌, ℕ, if◌then◌else◌};
+ghost use Rattle.std.specs.Prelude.{◌≡◌, [], ◌∷◌, ℕ, length, if◌then◌else◌};
 ghost use Rattle.causes.specs.Refusal.{number_of};
 ghost use Rattle.counting.specs.Choose.{unless_refused};
 ghost use Rattle.hands.specs.Hand.{of_rank, of_suit, flush, hand_refusal};
@@ -109,10 +109,18 @@ pub fn five_of_word(word: u64, suited: bool) -> FiveName
     }
 }
 
+// Five cards by their ranks and suits, counted in the list that is lent.
+fn five_in(cards: &[u8]) -> FiveName
+    requires { length cards.now ≡ 5 }
+    ensures { result ≡ name_five cards.now }
+{
+    five_of_word(words::word_in(cards), words::is_suited(cards))
+}
+
 pub fn five_by_word(cards: [u8; 5]) -> FiveName
     ensures { result ≡ name_five cards }
 {
-    five_of_word(words::word_in(&cards), words::is_suited(&cards))
+    five_in(&cards)
 }
 
 #[tactic(auto, unfolding(crate::specs::Five::name_five, crate::specs::Five::five_by))]
@@ -154,7 +162,7 @@ pub fn name_five(cards: &[u8]) -> Result<FiveName, Refusal>
     ensures values { values_of five_place result ≡ unless_refused (hand_refusal 5 cards.now) (five_place (name_five cards.now) ∷ []) }
 {
     hands::hand_refusal(cards, 5)?;
-    Ok(five_by_word([cards[0], cards[1], cards[2], cards[3], cards[4]]))
+    Ok(five_in(cards))
 }
 
 // A name's place among the names of five cards, from 0 for the highest.
@@ -187,10 +195,17 @@ fn board_of_word(word: u64, suited: bool) -> BoardName
     }
 }
 
+fn board_in(cards: &[u8]) -> BoardName
+    requires { length cards.now ≡ 3 }
+    ensures { result ≡ name_board cards.now }
+{
+    board_of_word(words::word_in(cards), words::is_suited(cards))
+}
+
 pub fn board_by_word(cards: [u8; 3]) -> BoardName
     ensures { result ≡ name_board cards }
 {
-    board_of_word(words::word_in(&cards), words::is_suited(&cards))
+    board_in(&cards)
 }
 
 #[tactic(auto, unfolding(crate::specs::Board::name_board, crate::specs::Board::board_by))]
@@ -222,7 +237,7 @@ pub fn name_board(cards: &[u8]) -> Result<BoardName, Refusal>
     ensures values { values_of board_place result ≡ unless_refused (hand_refusal 3 cards.now) (board_place (name_board cards.now) ∷ []) }
 {
     hands::hand_refusal(cards, 3)?;
-    Ok(board_by_word([cards[0], cards[1], cards[2]]))
+    Ok(board_in(cards))
 }
 
 // One ace, and one of jack, queen and king.
@@ -253,10 +268,17 @@ fn pocket_of_word(word: u64, suited: bool) -> PocketName
     }
 }
 
+fn pocket_in(cards: &[u8]) -> PocketName
+    requires { length cards.now ≡ 2 }
+    ensures { result ≡ name_pocket cards.now }
+{
+    pocket_of_word(words::word_in(cards), words::is_suited(cards))
+}
+
 pub fn pocket_by_word(cards: [u8; 2]) -> PocketName
     ensures { result ≡ name_pocket cards }
 {
-    pocket_of_word(words::word_in(&cards), words::is_suited(&cards))
+    pocket_in(&cards)
 }
 
 #[tactic(auto, unfolding(crate::specs::Pocket::name_pocket, crate::specs::Pocket::pocket_by))]
@@ -283,7 +305,7 @@ pub fn name_pocket(cards: &[u8]) -> Result<PocketName, Refusal>
     ensures values { values_of pocket_place result ≡ unless_refused (hand_refusal 2 cards.now) (pocket_place (name_pocket cards.now) ∷ []) }
 {
     hands::hand_refusal(cards, 2)?;
-    Ok(pocket_by_word([cards[0], cards[1]]))
+    Ok(pocket_in(cards))
 }
 
 #[tactic(auto, unfolding(crate::specs::Lo::is_lo))]
@@ -295,11 +317,11 @@ fn is_lo(cards: &[u8]) -> bool
 }
 
 // The ranks of five cards all differ, and there is no straight or flush.
-fn is_lo_by_word(cards: [u8; 5]) -> bool
-    ensures { result ≡ is_lo (of_rank cards) (of_suit cards) }
+fn is_lo_by_word(cards: &[u8; 5]) -> bool
+    ensures { result ≡ is_lo (of_rank cards.now) (of_suit cards.now) }
 {
-    let row = words::is_straight5(words::word_in(&cards));
-    words::are_five(cards) & !row & !words::is_suited(&cards)
+    let row = words::is_straight5(words::word_in(cards));
+    words::are_five(cards) & !row & !words::is_suited(cards)
 }
 
 fn lo_named(low: bool, top: u8) -> LoName
@@ -312,17 +334,27 @@ fn lo_named(low: bool, top: u8) -> LoName
     }
 }
 
+fn lo_in(cards: &[u8; 5]) -> LoName
+    ensures { result ≡ name_lo cards.now }
+{
+    lo_named(is_lo_by_word(cards), words::top_rank(cards))
+}
+
 pub fn lo_by_word(cards: [u8; 5]) -> LoName
     ensures { result ≡ name_lo cards }
 {
-    lo_named(is_lo_by_word(cards), words::top_rank(&cards))
+    lo_in(&cards)
 }
 
 #[tactic(auto, unfolding(crate::specs::Lo::name_lo, crate::specs::Lo::lo_by))]
 pub fn lo_of(cards: &[u8]) -> LoName
     ensures { result ≡ name_lo cards.now }
 {
-    lo_named(is_lo(cards), hands::highest_of(cards))
+    if is_lo(cards) {
+        LoName::High(hands::highest_of(cards))
+    } else {
+        LoName::Nothing
+    }
 }
 
 pub fn name_lo(cards: &[u8]) -> Result<LoName, Refusal>
@@ -331,5 +363,9 @@ pub fn name_lo(cards: &[u8]) -> Result<LoName, Refusal>
     ensures values { values_of lo_high result ≡ unless_refused (hand_refusal 5 cards.now) (lo_high (name_lo cards.now) ∷ []) }
 {
     hands::hand_refusal(cards, 5)?;
-    Ok(lo_by_word([cards[0], cards[1], cards[2], cards[3], cards[4]]))
+    // The list itself as an array, which it is: another length has been refused.
+    match cards.as_array() {
+        Some(five) => Ok(lo_in(five)),
+        None => Err(Refusal::HandLength),
+    }
 }

@@ -180,10 +180,10 @@ pub fn top_rank(cards: &[u8]) -> u8
 }
 
 // The ranks of five cards all differ: none occurs twice, and all five are cards.
-pub fn are_five(cards: [u8; 5]) -> bool
-    ensures { result ≡ eqb (of_a_kind 1 (of_rank cards)) 5 }
+pub fn are_five(cards: &[u8; 5]) -> bool
+    ensures { result ≡ eqb (of_a_kind 1 (of_rank cards.now)) 5 }
 {
-    is_apart(word_in(&cards)) & (largest(&cards) < 52)
+    is_apart(word_in(cards)) & (largest(cards) < 52)
 }
 
 // Cards are of one suit where each is of the first one's; of no cards each suit has as many as there are. With no branch: which card is of another suit can't be foretold.

@@ -1,4 +1,3 @@
-use Rattle.counting.specs.Count.{gather}
 use Rattle.names.proofs.Answers.{refused, named}
 use Rattle.allsix.specs.Six.{name_six, answer_six, six_place}
 use Rattle.allsix.proofs.name_six.Goals as goal
@@ -8,6 +7,6 @@ unfolding answer_six
 returns-in_err-hand_refusal c = refused six_place _ _ _ _ c.from_residual.ensures.1 c.in_err-hand_refusal.ensures.number
 
 pub returns : goal.returns
-unfolding answer_six gather
+unfolding answer_six
 returns c =
-    let ok = c.in_ok-hand_refusal.ensures in named six_place name_six 6 _ ok.number ok.long _ c.six_by_word.ensures
+    let ok = c.in_ok-hand_refusal.ensures in named six_place name_six 6 _ ok.number _ c.six_in.ensures

@@ -1,4 +1,3 @@
-use Rattle.counting.specs.Count.{gather}
 use Rattle.names.specs.Board.{name_board, answer_board, board_place}
 use Rattle.names.proofs.Answers.{refused, named}
 use Rattle.names.proofs.name_board.Goals as goal
@@ -8,7 +7,7 @@ unfolding answer_board
 returns-in_err-hand_refusal c = refused board_place _ _ _ _ c.from_residual.ensures.1 c.in_err-hand_refusal.ensures.number
 
 pub returns : goal.returns
-unfolding answer_board gather
+unfolding answer_board
 returns c =
     let ok = c.in_ok-hand_refusal.ensures in
-    named board_place name_board 3 _ ok.number ok.long _ c.board_by_word.ensures
+    named board_place name_board 3 _ ok.number _ c.board_in.ensures

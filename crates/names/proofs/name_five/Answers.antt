@@ -1,4 +1,3 @@
-use Rattle.counting.specs.Count.{gather}
 use Rattle.names.specs.Five.{name_five, answer_five, five_place}
 use Rattle.names.proofs.Answers.{refused, named}
 use Rattle.names.proofs.name_five.Goals as goal
@@ -8,7 +7,7 @@ unfolding answer_five
 returns-in_err-hand_refusal c = refused five_place _ _ _ _ c.from_residual.ensures.1 c.in_err-hand_refusal.ensures.number
 
 pub returns : goal.returns
-unfolding answer_five gather
+unfolding answer_five
 returns c =
     let ok = c.in_ok-hand_refusal.ensures in
-    named five_place name_five 5 _ ok.number ok.long _ c.five_by_word.ensures
+    named five_place name_five 5 _ ok.number _ c.five_in.ensures

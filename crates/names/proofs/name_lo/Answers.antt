@@ -1,4 +1,4 @@
-use Rattle.counting.specs.Count.{gather}
+use mathlib.Core.Path.{ap, ◌∙◌}
 use Rattle.names.specs.Lo.{name_lo, answer_lo, lo_high}
 use Rattle.names.proofs.Answers.{refused, named}
 use Rattle.names.proofs.name_lo.Goals as goal
@@ -7,8 +7,8 @@ pub returns-in_err-hand_refusal : goal.returns-in_err-hand_refusal
 unfolding answer_lo
 returns-in_err-hand_refusal c = refused lo_high _ _ _ _ c.from_residual.ensures.1 c.in_err-hand_refusal.ensures.number
 
-pub returns : goal.returns
-unfolding answer_lo gather
-returns c =
+pub returns-in-Some : goal.returns-in-Some
+unfolding answer_lo
+returns-in-Some c =
     let ok = c.in_ok-hand_refusal.ensures in
-    named lo_high name_lo 5 _ ok.number ok.long _ c.lo_by_word.ensures
+    named lo_high name_lo 5 _ ok.number _ (c.lo_in.ensures ∙ ap name_lo c.in-Some.ensures.cases.same)

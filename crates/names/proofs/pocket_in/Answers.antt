@@ -1,12 +1,12 @@
-use Rattle.std.proofs.Common.{◌≡◌, length, arith, rules}
+use Rattle.std.proofs.Common.{arith}
 use Rattle.hands.specs.Hand.{of_rank, of_suit}
 use Rattle.words.proofs.Cards.{few_cards}
 use Rattle.names.specs.Pocket.{name_pocket}
-use Rattle.names.proofs.pocket_by_word.Goals as goal
+use Rattle.names.proofs.pocket_in.Goals as goal
 
 pub returns : goal.returns
 unfolding name_pocket
 returns c =
-    let cs = c.args.cards in
-    let two : length cs ≡ 2 = search rules in
+    let cs = c.args.cards.now in
+    let two = c.requires in
     c.pocket_of_word.ensures (of_rank cs) (of_suit cs) (c.word_in.ensures.few (omega arith), omega (arith, few_cards cs)) (rw two at c.is_suited.ensures)

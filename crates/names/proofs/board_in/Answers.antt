@@ -1,12 +1,12 @@
-use Rattle.std.proofs.Common.{◌≡◌, length, arith, rules}
+use Rattle.std.proofs.Common.{arith}
 use Rattle.hands.specs.Hand.{of_rank, of_suit}
 use Rattle.words.proofs.Cards.{few_cards}
 use Rattle.names.specs.Board.{name_board}
-use Rattle.names.proofs.board_by_word.Goals as goal
+use Rattle.names.proofs.board_in.Goals as goal
 
 pub returns : goal.returns
 unfolding name_board
 returns c =
-    let cs = c.args.cards in
-    let three : length cs ≡ 3 = search rules in
+    let cs = c.args.cards.now in
+    let three = c.requires in
     c.board_of_word.ensures (of_rank cs) (of_suit cs) (c.word_in.ensures.few (omega arith), omega (arith, few_cards cs)) (rw three at c.is_suited.ensures)
