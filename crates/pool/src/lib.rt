@@ -107,7 +107,9 @@ fn fill(wins: &[u64], maximum: u64, pool: u64, shares: &mut [u64])
         let left = maximum - total_of(shares);
         give(left, &stand, shares);
     } else {
-        shares.copy_from_slice(wins);
+        for (i, win) in wins.iter().enumerate() {
+            shares[i] = *win;
+        }
     }
 }
 

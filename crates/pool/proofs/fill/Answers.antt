@@ -1,8 +1,10 @@
 use Prim.Native.Nat.{◌≤◌, ◌<◌}
-use mathlib.Core.Path.{sym, ◌∙◌}
+use mathlib.Core.Path.{refl, sym, ◌∙◌}
 use native.Mathlib.Omega.{arith}
 use lib.ListN.{length, length-map}
+use borrow.Author.Rules.{rules}
 use Rattle.counting.specs.Count.{total}
+use Rattle.counting.proofs.Fills.{fill_none, fill_more, filled}
 use Rattle.pool.specs.Pool.{rounded_down, dollars_left}
 use Rattle.pool.proofs.Laws.{fit_total}
 use Rattle.pool.proofs.Rounded.{rounded_within}
@@ -46,7 +48,15 @@ returns-then-maximum-pool c =
     c.give.ensures
     ∙ rw (c.total_of.ensures, r.ensures.standings, r.ensures.list, c.requires.maximum_bound.1) (cut-shares c.args.maximum wins c.requires.wins_len.1 over)
 
-pub returns-else-maximum-pool : goal.returns-else-maximum-pool
-returns-else-maximum-pool c =
+pub loop-i-init : goal.loop-i-init
+loop-i-init c =
+    let a = c.args in
+    fill_none a.wins.now a.shares.now (search rules)
+
+pub loop-i-preserved : goal.loop-i-preserved
+loop-i-preserved c = fill_more _ _ _ _ c.loop-i.invariant c.loop-i-test.true refl
+
+pub returns-after-loop-i : goal.returns-after-loop-i
+returns-after-loop-i c =
     let full : total c.args.wins.now ≤ c.args.maximum = omega (arith, c.if-maximum-pool.false, c.requires.maximum_bound.1) in
-    c.copy_from_slice.ensures.after ∙ sym ((shares_law c.args.maximum c.args.wins.now).in_full full)
+    filled _ _ _ c.loop-i.invariant c.loop-i-test.false ∙ sym ((shares_law c.args.maximum c.args.wins.now).in_full full)
