@@ -78,12 +78,12 @@ fn best_of_six(a: u8, b: u8, c: u8, d: u8, e: u8, f: u8) -> FiveName
     higher_of(five_of_word(all - wf, is_one_suit(suits - sf)), fifth)
 }
 
-// Nine to ace of one suit. Few hands are of one suit, so the ranks are looked at last.
+// Nine to ace of one suit. Few hands are of one suit, so the ranks are looked at last. (The first six, which are all: so the compiler knows how many.)
 fn is_six_royal(cards: &[u8]) -> bool
     requires { length cards.now ≡ 6 }
     ensures { result ≡ six_royal cards.now }
 {
-    words::is_suited(cards) && hands::is_run(cards, 6, 9)
+    words::is_suited(&cards[..6]) && hands::is_run(cards, 6, 9)
 }
 
 // Six cards, in the list that is lent.

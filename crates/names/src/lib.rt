@@ -109,12 +109,13 @@ pub fn five_of_word(word: u64, suited: bool) -> FiveName
     }
 }
 
-// Five cards by their ranks and suits, counted in the list that is lent.
+// Five cards by their ranks and suits, counted in the list that is lent: in its first five, which are all, so that the compiler knows how many.
 fn five_in(cards: &[u8]) -> FiveName
     requires { length cards.now ≡ 5 }
     ensures { result ≡ name_five cards.now }
 {
-    five_of_word(words::word_in(cards), words::is_suited(cards))
+    let five = &cards[..5];
+    five_of_word(words::word_in(five), words::is_suited(five))
 }
 
 pub fn five_by_word(cards: [u8; 5]) -> FiveName
@@ -199,7 +200,8 @@ fn board_in(cards: &[u8]) -> BoardName
     requires { length cards.now ≡ 3 }
     ensures { result ≡ name_board cards.now }
 {
-    board_of_word(words::word_in(cards), words::is_suited(cards))
+    let three = &cards[..3];
+    board_of_word(words::word_in(three), words::is_suited(three))
 }
 
 pub fn board_by_word(cards: [u8; 3]) -> BoardName
@@ -272,7 +274,8 @@ fn pocket_in(cards: &[u8]) -> PocketName
     requires { length cards.now ≡ 2 }
     ensures { result ≡ name_pocket cards.now }
 {
-    pocket_of_word(words::word_in(cards), words::is_suited(cards))
+    let two = &cards[..2];
+    pocket_of_word(words::word_in(two), words::is_suited(two))
 }
 
 pub fn pocket_by_word(cards: [u8; 2]) -> PocketName
