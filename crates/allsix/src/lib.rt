@@ -100,10 +100,10 @@ fn six_in(cards: &[u8]) -> SixName
     }
 }
 
-pub fn six_by_word(cards: [u8; 6]) -> SixName
-    ensures { result ≡ name_six cards }
+pub fn six_by_word(cards: &[u8; 6]) -> SixName
+    ensures { result ≡ name_six cards.now }
 {
-    six_in(&cards)
+    six_in(cards)
 }
 
 pub fn name_six(cards: &[u8]) -> Result<SixName, Refusal>

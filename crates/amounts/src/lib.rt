@@ -70,7 +70,7 @@ pub fn base_wager(round: Round, k: u8) -> u32
 pub fn hand_of(round: Round, k: u8) -> FiveName
     ensures { result ≡ hand_of round k }
 {
-    names::five_by_word(deal_of(&round).five(k))
+    names::five_by_word(&deal_of(&round).five(k))
 }
 
 // The base of a seat that is still in, by what its pay table says of its hand.
@@ -118,7 +118,7 @@ pub fn bases_of(round: Round) -> Bases
 pub fn board_pay_of(round: Round) -> Pay
     ensures { result ≡ board_pay_of round }
 {
-    let name = names::board_by_word(deal_of(&round).community());
+    let name = names::board_by_word(&deal_of(&round).community());
     odds::board_pay(round.table.board, name)
 }
 
@@ -126,7 +126,7 @@ pub fn board_pay_of(round: Round) -> Pay
 fn pocket_pay_of(round: &Round, k: u8) -> Pay
     ensures { result ≡ pocket_pay_of round.now k }
 {
-    let name = names::pocket_by_word(deal_of(round).hole(k));
+    let name = names::pocket_by_word(&deal_of(round).hole(k));
     odds::pocket_pay(round.table.pocket, name)
 }
 
@@ -134,7 +134,7 @@ fn pocket_pay_of(round: &Round, k: u8) -> Pay
 fn lo_pay_of(round: &Round, k: u8) -> Pay
     ensures { result ≡ lo_pay_of round.now k }
 {
-    let name = names::lo_by_word(deal_of(round).five(k));
+    let name = names::lo_by_word(&deal_of(round).five(k));
     odds::lo_pay(round.table.lo, name)
 }
 
@@ -142,7 +142,7 @@ fn lo_pay_of(round: &Round, k: u8) -> Pay
 fn six_pay_of(round: &Round, k: u8) -> Pay
     ensures { result ≡ six_pay_of round.now k }
 {
-    let name = allsix::six_by_word(deal_of(round).six(k));
+    let name = allsix::six_by_word(&deal_of(round).six(k));
     odds::six_pay(round.table.six, name)
 }
 

@@ -118,10 +118,10 @@ fn five_in(cards: &[u8]) -> FiveName
     five_of_word(words::word_in(five), words::is_suited(five))
 }
 
-pub fn five_by_word(cards: [u8; 5]) -> FiveName
-    ensures { result ≡ name_five cards }
+pub fn five_by_word(cards: &[u8; 5]) -> FiveName
+    ensures { result ≡ name_five cards.now }
 {
-    five_in(&cards)
+    five_in(cards)
 }
 
 #[tactic(auto, unfolding(crate::specs::Five::name_five, crate::specs::Five::five_by))]
@@ -204,10 +204,10 @@ fn board_in(cards: &[u8]) -> BoardName
     board_of_word(words::word_in(three), words::is_suited(three))
 }
 
-pub fn board_by_word(cards: [u8; 3]) -> BoardName
-    ensures { result ≡ name_board cards }
+pub fn board_by_word(cards: &[u8; 3]) -> BoardName
+    ensures { result ≡ name_board cards.now }
 {
-    board_in(&cards)
+    board_in(cards)
 }
 
 #[tactic(auto, unfolding(crate::specs::Board::name_board, crate::specs::Board::board_by))]
@@ -278,10 +278,10 @@ fn pocket_in(cards: &[u8]) -> PocketName
     pocket_of_word(words::word_in(two), words::is_suited(two))
 }
 
-pub fn pocket_by_word(cards: [u8; 2]) -> PocketName
-    ensures { result ≡ name_pocket cards }
+pub fn pocket_by_word(cards: &[u8; 2]) -> PocketName
+    ensures { result ≡ name_pocket cards.now }
 {
-    pocket_in(&cards)
+    pocket_in(cards)
 }
 
 #[tactic(auto, unfolding(crate::specs::Pocket::name_pocket, crate::specs::Pocket::pocket_by))]
@@ -337,16 +337,10 @@ fn lo_named(low: bool, top: u8) -> LoName
     }
 }
 
-fn lo_in(cards: &[u8; 5]) -> LoName
+pub fn lo_by_word(cards: &[u8; 5]) -> LoName
     ensures { result ≡ name_lo cards.now }
 {
     lo_named(is_lo_by_word(cards), words::top_rank(cards))
-}
-
-pub fn lo_by_word(cards: [u8; 5]) -> LoName
-    ensures { result ≡ name_lo cards }
-{
-    lo_in(&cards)
 }
 
 #[tactic(auto, unfolding(crate::specs::Lo::name_lo, crate::specs::Lo::lo_by))]
@@ -368,7 +362,7 @@ pub fn name_lo(cards: &[u8]) -> Result<LoName, Refusal>
     hands::hand_refusal(cards, 5)?;
     // The list itself as an array, which it is: another length has been refused.
     match cards.as_array() {
-        Some(five) => Ok(lo_in(five)),
+        Some(five) => Ok(lo_by_word(five)),
         None => Err(Refusal::HandLength),
     }
 }

@@ -11,4 +11,4 @@ pub returns-in-Some : goal.returns-in-Some
 unfolding answer_lo
 returns-in-Some c =
     let ok = c.in_ok-hand_refusal.ensures in
-    named lo_high name_lo 5 _ ok.number _ (c.lo_in.ensures ∙ ap name_lo c.in-Some.ensures.cases.same)
+    named lo_high name_lo 5 _ ok.number _ (c.lo_by_word.ensures ∙ ap name_lo c.in-Some.ensures.cases.same)

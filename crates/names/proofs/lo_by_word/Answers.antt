@@ -3,7 +3,7 @@ use Rattle.hands.specs.Hand.{of_rank, of_suit}
 use Rattle.words.proofs.Cards.{five-highest}
 use Rattle.names.specs.Lo.{name_lo}
 use Rattle.names.proofs.Los.{named_low}
-use Rattle.names.proofs.lo_in.Goals as goal
+use Rattle.names.proofs.lo_by_word.Goals as goal
 
 pub returns : goal.returns
 unfolding name_lo
