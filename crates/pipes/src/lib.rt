@@ -47,7 +47,7 @@ pub struct First {
 // How a program was called: with `--status` or without.
 #[derive(Clone, Copy)]
 pub struct Call {
-    status: bool,
+    pub status: bool,
 }
 
 // What a program comes to that did its work.
