@@ -60,12 +60,16 @@ suit_out_lem : (cs : List ℕ) (c : ℕ) (ds : List ℕ) → digits 4 (of_suit (
 suit_out_lem cs c ds = omega (arith, suits_both cs (c ∷ ds), suits_both (c ∷ []) ds, suits_both cs ds)
 
 -- r, which five_of_word gives, is the name of the others
-pub others_named : (cs : List ℕ) (c : ℕ) (ds : List ℕ) → length (cs ++ ds) ≡ 5 → {w v x y : ℕ} {suited : Bool} {r : FiveName}
+pub others_named : (cs : List ℕ) (c : ℕ) (ds : List ℕ) → length (cs ++ ds) ≡ 5 → {w v : ℕ} {suited : Bool} {r : FiveName}
     → ((h t : ℕ → ℕ) → Has 5 (w - v) h → suited ≡ flush 5 t → r ≡ five_by h t)
-    → w ≡ word (of_rank (cs ++ (c ∷ ds))) → v ≡ own c
-    → ((t : ℕ → ℕ) → x - y ≡ digits 4 t → sum_below 4 t ≤ 5 → suited ≡ flush 5 t)
-    → x ≡ digits 4 (of_suit (cs ++ (c ∷ ds))) → y ≡ own_suit c → r ≡ name_five (cs ++ ds)
+    → w ≡ word (of_rank (cs ++ (c ∷ ds))) → v ≡ own c → suited ≡ flush 5 (of_suit (cs ++ ds)) → r ≡ name_five (cs ++ ds)
 unfolding name_five
-others_named cs c ds five by all mine alike suits my_suit =
-    by (of_rank (cs ++ ds)) (of_suit (cs ++ ds)) (omega (arith, left_out_lem cs c ds), omega (arith, few_cards (cs ++ ds)))
-    (alike (of_suit (cs ++ ds)) (omega (arith, suit_out_lem cs c ds)) (omega (arith, few_suits (cs ++ ds))))
+others_named cs c ds five by all mine same =
+    by (of_rank (cs ++ ds)) (of_suit (cs ++ ds)) (omega (arith, left_out_lem cs c ds), omega (arith, few_cards (cs ++ ds))) same
+
+-- suited, which is_one_suit tells, is whether the others are of one suit
+pub others_suited : (cs : List ℕ) (c : ℕ) (ds : List ℕ) → length (cs ++ ds) ≡ 5 → {x y : ℕ} {suited : Bool}
+    → ((t : ℕ → ℕ) → x - y ≡ digits 4 t → sum_below 4 t ≤ 5 → suited ≡ flush 5 t)
+    → x ≡ digits 4 (of_suit (cs ++ (c ∷ ds))) → y ≡ own_suit c → suited ≡ flush 5 (of_suit (cs ++ ds))
+others_suited cs c ds five alike suits mine =
+    alike (of_suit (cs ++ ds)) (omega (arith, suit_out_lem cs c ds)) (omega (arith, few_suits (cs ++ ds)))

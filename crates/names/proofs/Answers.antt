@@ -6,6 +6,7 @@ use mathlib.Core.Bool.{Bool, true, false}
 use mathlib.Core.List.{List, [], ◌∷◌}
 use native.Mathlib.Omega.{arith}
 use lib.Dec.{eqb}
+use lib.ListN.{length, get_or}
 use borrow.Author.Tests.{eqb-true, eq-eqb, ne_eqb}
 use Rattle.std.specs.Prelude.{Result, Ok, Err, IsErrAnd, if◌then◌else◌}
 use Rattle.std.proofs.lemmas.Result.{err_from_is_err_and}
@@ -13,6 +14,8 @@ use Rattle.causes.specs.declared.Refusal.{Refusal}
 use Rattle.causes.specs.Refusal.{number, cause, number_of, answered}
 use Rattle.causes.proofs.Numbers.{cause-number}
 use Rattle.counting.specs.Choose.{unless_refused}
+use Rattle.counting.specs.Count.{each}
+use Rattle.counting.proofs.Gathers.{each_of}
 use Rattle.hands.specs.Hand.{hand_refusal}
 use Rattle.names.specs.Answer.{values_of}
 
@@ -33,12 +36,18 @@ module _ {Name : Type 0} (place : Name → ℕ) where
       let same : cause n ≡ refusal = ap cause (sym e) ∙ cause-number refusal in
       rw (p.1, p.2) (record { answer = simp (ne_eqb n 0 some, same); number = e; values = simp (ne_eqb n 0 some) })
 
-  pub named : (name : List ℕ → Name) (n : ℕ) (cs : List ℕ) → 0 ≡ hand_refusal n cs → (given : Name) → given ≡ name cs
+  -- named as what it is
+  pub named_whole : (name : List ℕ → Name) (n : ℕ) (cs : List ℕ) → 0 ≡ hand_refusal n cs → (given : Name) → given ≡ name cs
       → Promised place (hand_refusal n cs) (name cs) (Ok given)
   unfolding answered unless_refused
-  named name n cs sound given same =
+  named_whole name n cs sound given same =
       let none = eq-eqb (hand_refusal n cs) 0 (sym sound) in
       record { answer = simp (none, same); number = sound; values = simp (none, same) }
+
+  -- named by its numbers: a list of n is the n numbers in it
+  pub named : (name : List ℕ → Name) (n : ℕ) (cs : List ℕ) → 0 ≡ hand_refusal n cs → length cs ≡ n → (given : Name) → given ≡ name (each n (λ k. get_or cs k 0))
+      → Promised place (hand_refusal n cs) (name cs) (Ok given)
+  named name n cs sound long given same = named_whole name n cs sound given (same ∙ ap name (sym (each_of cs n long)))
 
 -- one answer to cards of one name, and to cards that are refused, whatever their name
 pub answered_same : {Name : Type 0} {x y : Name} (n : ℕ) → (n ≡ 0 → x ≡ y) → answered n x ≡ answered n y

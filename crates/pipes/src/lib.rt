@@ -190,24 +190,27 @@ pub fn tell_text(rt: &impl Eprint, text: &[u8]) {
     }
 }
 
-// Tells, besides, why.
-fn tell_why(rt: &impl Eprint, name: &[u8], what: &[u8], reason: Error) {
+// Tells, besides, why, where that is known.
+fn tell_why(rt: &impl Eprint, name: &[u8], what: &[u8], reason: Option<Error>) {
     let mut room = [0u8; 128];
     let mut page = Page::new(&mut room);
     put_told(&mut page, name, what);
     tell_text(rt, page.text());
-    let _ = rt.eprintln(format_args!(": {reason}"));
+    let _ = match reason {
+        Some(error) => rt.eprintln(format_args!(": {error}")),
+        None => rt.eprintln(""),
+    };
 }
 
-// Tells that a read failed, and why.
-pub fn tell_unread(rt: &impl Eprint, name: &[u8], unread: Unread) -> Fault {
-    tell_why(rt, name, b"cannot read standard input", unread.reason);
+// Tells that a read failed, and why, where that is known.
+pub fn tell_unread(rt: &impl Eprint, name: &[u8], reason: Option<Error>) -> Fault {
+    tell_why(rt, name, b"cannot read standard input", reason);
     Fault
 }
 
 // Tells that a write failed, and why.
 pub fn tell_unwritten(rt: &impl Eprint, name: &[u8], error: Error) -> Fault {
-    tell_why(rt, name, b"cannot write to standard output", error);
+    tell_why(rt, name, b"cannot write to standard output", Some(error));
     Fault
 }
 
@@ -225,7 +228,7 @@ pub fn read_all(
     let rest = count_rest(rt);
     let bytes = bytes_of(read);
     if let Err(unread) = rest.and(read) {
-        tell_unread(rt, name, unread);
+        tell_unread(rt, name, Some(unread.reason));
         return Err(Untaken { bytes });
     }
     if rest.is_ok_and(|after| after == 0) {
@@ -265,7 +268,7 @@ pub fn read_first(
     let bytes = bytes_of(read);
     let rest = beyond(rt, bytes, room.len());
     if let Err(unread) = rest.and(read) {
-        tell_unread(rt, name, unread);
+        tell_unread(rt, name, Some(unread.reason));
         return Err(Untaken { bytes });
     }
     Ok(First {
@@ -281,7 +284,7 @@ pub fn read_next(
     room: &mut [u8],
     what: &[u8],
 ) -> Result<bool, Fault> {
-    let bytes = read_into(rt, room).map_err(|unread| tell_unread(rt, name, unread))?;
+    let bytes = read_into(rt, room).map_err(|unread| tell_unread(rt, name, Some(unread.reason)))?;
     if bytes == 0 {
         return Ok(false);
     }
@@ -299,7 +302,7 @@ pub fn read_whole(
     room: &mut [u8],
     what: &[u8],
 ) -> Result<(), Fault> {
-    let bytes = read_into(rt, room).map_err(|unread| tell_unread(rt, name, unread))?;
+    let bytes = read_into(rt, room).map_err(|unread| tell_unread(rt, name, Some(unread.reason)))?;
     if bytes < room.len() {
         tell(rt, name, what);
         return Err(Fault);
@@ -371,7 +374,7 @@ pub fn end(rt: &(impl Files + Eprint), name: &[u8], call: Call, outcome: Result<
         return;
     }
     if let Err(error) = write_status(rt, &[digit(outcome), b'\n']) {
-        tell_why(rt, name, b"cannot write the status", error);
+        tell_why(rt, name, b"cannot write the status", Some(error));
     }
 }
 

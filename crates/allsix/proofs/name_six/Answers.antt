@@ -1,4 +1,4 @@
-use Rattle.names.proofs.Answers.{refused, named}
+use Rattle.names.proofs.Answers.{refused, named_whole}
 use Rattle.allsix.specs.Six.{name_six, answer_six, six_place}
 use Rattle.allsix.proofs.name_six.Goals as goal
 
@@ -9,4 +9,4 @@ returns-in_err-hand_refusal c = refused six_place _ _ _ _ c.from_residual.ensure
 pub returns : goal.returns
 unfolding answer_six
 returns c =
-    let ok = c.in_ok-hand_refusal.ensures in named six_place name_six 6 _ ok.number _ c.six_in.ensures
+    let ok = c.in_ok-hand_refusal.ensures in named_whole six_place name_six 6 _ ok.number _ c.six_in.ensures

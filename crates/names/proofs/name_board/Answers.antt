@@ -1,5 +1,5 @@
 use Rattle.names.specs.Board.{name_board, answer_board, board_place}
-use Rattle.names.proofs.Answers.{refused, named}
+use Rattle.names.proofs.Answers.{refused, named_whole}
 use Rattle.names.proofs.name_board.Goals as goal
 
 pub returns-in_err-hand_refusal : goal.returns-in_err-hand_refusal
@@ -10,4 +10,4 @@ pub returns : goal.returns
 unfolding answer_board
 returns c =
     let ok = c.in_ok-hand_refusal.ensures in
-    named board_place name_board 3 _ ok.number _ c.board_in.ensures
+    named_whole board_place name_board 3 _ ok.number _ c.board_in.ensures
