@@ -67,9 +67,11 @@ unfolding name_five
 others_named cs c ds five by all mine same =
     by (of_rank (cs ++ ds)) (of_suit (cs ++ ds)) (omega (arith, left_out_lem cs c ds), omega (arith, few_cards (cs ++ ds))) same
 
--- suited, which is_one_suit tells, is whether the others are of one suit
-pub others_suited : (cs : List ℕ) (c : ℕ) (ds : List ℕ) → length (cs ++ ds) ≡ 5 → {x y : ℕ} {suited : Bool}
-    → ((t : ℕ → ℕ) → x - y ≡ digits 4 t → sum_below 4 t ≤ 5 → suited ≡ flush 5 t)
-    → x ≡ digits 4 (of_suit (cs ++ (c ∷ ds))) → y ≡ own_suit c → suited ≡ flush 5 (of_suit (cs ++ ds))
-others_suited cs c ds five alike suits mine =
-    alike (of_suit (cs ++ ds)) (omega (arith, suit_out_lem cs c ds)) (omega (arith, few_suits (cs ++ ds)))
+-- and so is what name_without gives
+pub others_without : (cs : List ℕ) (c : ℕ) (ds : List ℕ) → length (cs ++ ds) ≡ 5 → {w x : ℕ} {r : FiveName}
+    → ((h t : ℕ → ℕ) → Has 5 (w - own c) h → x - own_suit c ≡ digits 4 t → sum_below 4 t ≤ 5 → r ≡ five_by h t)
+    → w ≡ word (of_rank (cs ++ (c ∷ ds))) → x ≡ digits 4 (of_suit (cs ++ (c ∷ ds))) → r ≡ name_five (cs ++ ds)
+unfolding name_five
+others_without cs c ds five by all suits =
+    by (of_rank (cs ++ ds)) (of_suit (cs ++ ds)) (omega (arith, left_out_lem cs c ds), omega (arith, few_cards (cs ++ ds)))
+    (omega (arith, suit_out_lem cs c ds)) (omega (arith, few_suits (cs ++ ds)))

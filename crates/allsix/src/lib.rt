@@ -8,12 +8,13 @@
 
 #![tactic(auto)]
 
-ghost use Rattle.std.specs.Prelude.{◌≡◌, ◌≤◌, [], ◌∷◌, ℕ, length};
+ghost use Rattle.std.specs.Prelude.{◌≡◌, ◌≤◌, ◌-◌, [], ◌∷◌, ℕ, length};
 ghost use Rattle.causes.specs.Refusal.{number_of};
 ghost use Rattle.counting.specs.Choose.{unless_refused};
 ghost use Rattle.counting.specs.Count.{sum_below};
-ghost use Rattle.hands.specs.Hand.{of_suit, flush, hand_refusal};
-ghost use Rattle.words.specs.Word.{digits};
+ghost use Rattle.hands.specs.Hand.{of_rank, of_suit, flush, hand_refusal};
+ghost use Rattle.words.specs.Word.{digits, word, Has};
+ghost use Rattle.names.specs.Five.{five_by};
 ghost use Rattle.allsix.specs.Six.{higher, best_of_six, six_royal, name_six, answer_six, six_place, six_told};
 ghost use Rattle.names.specs.Answer.{values_of};
 
@@ -51,6 +52,18 @@ fn is_one_suit(suits: u16) -> bool
     (suits & 0x4444) / 4 & suits != 0
 }
 
+// What five of six cards are called, where one is left out: its own digits are taken from the words of all. It stays a call of its own, so that what is left of the six
+// isn't held for all of them at once.
+#[inline(never)]
+fn name_without(all: u64, suits: u16, card: u8) -> FiveName
+    ensures { (h t : ℕ → ℕ) → Has 5 (all - word (of_rank (card ∷ []))) h → suits - digits 4 (of_suit (card ∷ [])) ≡ digits 4 t → sum_below 4 t ≤ 5 → result ≡ five_by h t }
+{
+    five_of_word(
+        all.saturating_sub(words::word1(card)),
+        is_one_suit(suits.saturating_sub(suit_word(card))),
+    )
+}
+
 // The best of the six names that leaving out one card gives. Ranks and suits are counted once, in the words of all six; a card's own are taken from them where that
 // card is left out.
 fn best_of_six(a: u8, b: u8, c: u8, d: u8, e: u8, f: u8) -> FiveName
@@ -70,12 +83,12 @@ fn best_of_six(a: u8, b: u8, c: u8, d: u8, e: u8, f: u8) -> FiveName
     let se = suit_word(e);
     let sf = suit_word(f);
     let suits = sa + sb + sc + sd + se + sf;
-    let first = five_of_word(all - wa, is_one_suit(suits - sa));
-    let second = higher_of(five_of_word(all - wb, is_one_suit(suits - sb)), first);
-    let third = higher_of(five_of_word(all - wc, is_one_suit(suits - sc)), second);
-    let fourth = higher_of(five_of_word(all - wd, is_one_suit(suits - sd)), third);
-    let fifth = higher_of(five_of_word(all - we, is_one_suit(suits - se)), fourth);
-    higher_of(five_of_word(all - wf, is_one_suit(suits - sf)), fifth)
+    let first = name_without(all, suits, a);
+    let second = higher_of(name_without(all, suits, b), first);
+    let third = higher_of(name_without(all, suits, c), second);
+    let fourth = higher_of(name_without(all, suits, d), third);
+    let fifth = higher_of(name_without(all, suits, e), fourth);
+    higher_of(name_without(all, suits, f), fifth)
 }
 
 // Nine to ace of one suit. Few hands are of one suit, so the ranks are looked at last. (The first six, which are all: so the compiler knows how many.)

@@ -2,7 +2,7 @@ use mathlib.Core.Path.{refl, ap₂, ◌∙◌}
 use mathlib.Core.List.{[], ◌∷◌}
 use native.Mathlib.Omega.{arith}
 use Rattle.allsix.specs.Six.{without, higher, best_up_to}
-use Rattle.allsix.proofs.Choices.{six_words, six_suits, others_named, others_suited}
+use Rattle.allsix.proofs.Choices.{six_words, six_suits, others_without}
 use Rattle.allsix.proofs.best_of_six.Goals as goal
 
 -- the sums of all six are within bounds, and so are those on the way to them
@@ -46,10 +46,10 @@ returns c =
     let v = c.args in
     let all = (six_words v.a v.b v.c v.d v.e v.f c.word1-wa.ensures c.word1-wb.ensures c.word1-wc.ensures c.word1-wd.ensures c.word1-we.ensures c.word1-wf.ensures).0 in
     let suits = (six_suits v.a v.b v.c v.d v.e v.f c.suit_word-sa.ensures c.suit_word-sb.ensures c.suit_word-sc.ensures c.suit_word-sd.ensures c.suit_word-se.ensures c.suit_word-sf.ensures).0 in
-    let no-a = others_named [] v.a (v.b ∷ v.c ∷ v.d ∷ v.e ∷ v.f ∷ []) refl c.five_of_word-first.ensures all c.word1-wa.ensures (others_suited [] v.a (v.b ∷ v.c ∷ v.d ∷ v.e ∷ v.f ∷ []) refl c.is_one_suit.ensures suits c.suit_word-sa.ensures) in
-    let no-b = others_named (v.a ∷ []) v.b (v.c ∷ v.d ∷ v.e ∷ v.f ∷ []) refl c.five_of_word.ensures all c.word1-wb.ensures (others_suited (v.a ∷ []) v.b (v.c ∷ v.d ∷ v.e ∷ v.f ∷ []) refl c.is_one_suit-2.ensures suits c.suit_word-sb.ensures) in
-    let no-c = others_named (v.a ∷ v.b ∷ []) v.c (v.d ∷ v.e ∷ v.f ∷ []) refl c.five_of_word-2.ensures all c.word1-wc.ensures (others_suited (v.a ∷ v.b ∷ []) v.c (v.d ∷ v.e ∷ v.f ∷ []) refl c.is_one_suit-3.ensures suits c.suit_word-sc.ensures) in
-    let no-d = others_named (v.a ∷ v.b ∷ v.c ∷ []) v.d (v.e ∷ v.f ∷ []) refl c.five_of_word-3.ensures all c.word1-wd.ensures (others_suited (v.a ∷ v.b ∷ v.c ∷ []) v.d (v.e ∷ v.f ∷ []) refl c.is_one_suit-4.ensures suits c.suit_word-sd.ensures) in
-    let no-e = others_named (v.a ∷ v.b ∷ v.c ∷ v.d ∷ []) v.e (v.f ∷ []) refl c.five_of_word-4.ensures all c.word1-we.ensures (others_suited (v.a ∷ v.b ∷ v.c ∷ v.d ∷ []) v.e (v.f ∷ []) refl c.is_one_suit-5.ensures suits c.suit_word-se.ensures) in
-    let no-f = others_named (v.a ∷ v.b ∷ v.c ∷ v.d ∷ v.e ∷ []) v.f [] refl c.five_of_word-5.ensures all c.word1-wf.ensures (others_suited (v.a ∷ v.b ∷ v.c ∷ v.d ∷ v.e ∷ []) v.f [] refl c.is_one_suit-6.ensures suits c.suit_word-sf.ensures) in
+    let no-a = others_without [] v.a (v.b ∷ v.c ∷ v.d ∷ v.e ∷ v.f ∷ []) refl c.name_without-first.ensures all suits in
+    let no-b = others_without (v.a ∷ []) v.b (v.c ∷ v.d ∷ v.e ∷ v.f ∷ []) refl c.name_without.ensures all suits in
+    let no-c = others_without (v.a ∷ v.b ∷ []) v.c (v.d ∷ v.e ∷ v.f ∷ []) refl c.name_without-2.ensures all suits in
+    let no-d = others_without (v.a ∷ v.b ∷ v.c ∷ []) v.d (v.e ∷ v.f ∷ []) refl c.name_without-3.ensures all suits in
+    let no-e = others_without (v.a ∷ v.b ∷ v.c ∷ v.d ∷ []) v.e (v.f ∷ []) refl c.name_without-4.ensures all suits in
+    let no-f = others_without (v.a ∷ v.b ∷ v.c ∷ v.d ∷ v.e ∷ []) v.f [] refl c.name_without-5.ensures all suits in
     c.higher_of.ensures ∙ ap₂ higher no-f (c.higher_of-fifth.ensures ∙ ap₂ higher no-e (c.higher_of-fourth.ensures ∙ ap₂ higher no-d (c.higher_of-third.ensures ∙ ap₂ higher no-c (c.higher_of-second.ensures ∙ ap₂ higher no-b no-a))))
