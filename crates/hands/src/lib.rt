@@ -11,25 +11,28 @@ ghost use Rattle.causes.specs.Refusal.{number_of};
 ghost use Rattle.hands.specs.Hand.{of_rank, of_suit, kinds, flush, rank_on, run, straight, highest, hand_refusal};
 
 use causes::Refusal;
+use counting::one_where;
 
 // How many of the cards have the rank r.
 pub fn of_rank(cards: &[u8], r: usize) -> usize
     ensures { result ≡ of_rank cards.now r }
 {
-    cards
-        .iter()
-        .filter(|card| cards::rank_of(**card) as usize == r)
-        .count()
+    let mut n: usize = 0;
+    for card in cards {
+        n += one_where(cards::rank_of(*card) as usize == r) as usize;
+    }
+    n
 }
 
 // How many of the cards have the suit s.
 pub fn of_suit(cards: &[u8], s: u8) -> usize
     ensures { result ≡ of_suit cards.now s }
 {
-    cards
-        .iter()
-        .filter(|card| cards::suit_of(**card) == s)
-        .count()
+    let mut n: usize = 0;
+    for card in cards {
+        n += one_where(cards::suit_of(*card) == s) as usize;
+    }
+    n
 }
 
 // Of the n ranks from lo on, how many occur exactly k times.
